@@ -1,0 +1,215 @@
+#!/usr/bin/env python3
+"""Edits a copy of the published epa3.rs so that a run can be bounded and read afterwards.
+
+    edit_epa3.py SOURCE COPY [ORDER]    writes the edited copy
+    edit_epa3.py --list                 prints the edits
+
+ORDER says which of equal keys is popped first:
+    heap    as the toolchain's heap has it: FaceId::cmp is left alone (the default)
+    first   the face made first (arrival order)
+    last    the face made last
+
+No edit touches arithmetic or a test of the Rust. An edit whose old text is not found exactly
+as often as it says stops the script: the published text is then not the one it was made for.
+"""
+
+import sys
+from typing import NamedTuple
+
+
+class Edit(NamedTuple):
+    why: str
+    old: str
+    new: str
+    times: int = 1
+
+
+EDITS = [
+    Edit(
+        "the lists get a lent length; the name stays, so every push is tested where it stands",
+        "use alloc::vec::Vec;\n",
+        "use crate::lent::Vec;\n",
+    ),
+    Edit(
+        "the heap gets a lent length; inside is still the toolchain's own BinaryHeap",
+        "use alloc::collections::BinaryHeap;\n",
+        "use crate::lent::BinaryHeap;\n",
+    ),
+    Edit(
+        "a child module sees the private stores: our own file that reads them",
+        "use num::Bounded;\n",
+        'use num::Bounded;\n\n#[path = "record.rs"]\nmod record;\n',
+    ),
+    Edit(
+        "a place for the number of expansions completed and for the way out",
+        "    heap: BinaryHeap<FaceId>,\n}",
+        "    heap: BinaryHeap<FaceId>,\n"
+        "    expansions: usize,\n"
+        "    way_out: crate::query::epa::WayOut,\n"
+        "}",
+    ),
+    Edit(
+        "a new run forgets the counts of the last one",
+        "        self.vertices.clear();\n"
+        "        self.faces.clear();\n"
+        "        self.heap.clear();\n"
+        "        self.silhouette.clear();\n",
+        "        self.vertices.restart();\n"
+        "        self.faces.restart();\n"
+        "        self.heap.restart();\n"
+        "        self.silhouette.restart();\n"
+        "        self.expansions = 0;\n"
+        "        self.way_out = Default::default();\n",
+    ),
+    Edit(
+        "an expansion completed is counted where the Rust counts it",
+        "            niter += 1;\n",
+        "            niter += 1;\n            self.expansions += 1;\n",
+    ),
+]
+
+
+def assignment(way: str) -> str:
+    return f"self.way_out = crate::query::epa::WayOut::{way};\n"
+
+
+def indent(line: str) -> str:
+    return line[: len(line) - len(line.lstrip())]
+
+
+def before(line: str, way: str, why: str) -> Edit:
+    return Edit(f"way out: {why}", line, indent(line) + assignment(way) + line)
+
+
+def after(line: str, way: str, why: str) -> Edit:
+    return Edit(f"way out: {why}", line, line + indent(line) + assignment(way))
+
+
+def inside(line: str, way: str, why: str) -> Edit:
+    """As the first statement of the block that the line opens."""
+    return Edit(f"way out: {why}", line, line + indent(line) + "    " + assignment(way))
+
+
+# The way out is noted in the branch that leaves. A `?` and the loop's end have no branch of
+# their own: their name is noted beforehand and written over once they are passed.
+QUEUE_NEW_FACE = (
+    "                        self.heap.push(FaceId::new(new_face_id, -dist, dist_tol)?);\n"
+)
+WAYS_OUT = [
+    before(
+        "                    let v = self.vertices[0];\n",
+        "DegenerateStart",
+        "all support points are one point",
+    ),
+    before(
+        "        if simplex.dimension() == 3 {\n            let dp1",
+        "KeyRefusedAtStart",
+        "a `?` on a starting face's key, until the start is over",
+    ),
+    inside(
+        "            if !(proj_inside1 || proj_inside2 || proj_inside3 || proj_inside4) {\n",
+        "NoStartingFace",
+        "no starting face holds the projection",
+    ),
+    after(
+        "        let mut old_dist = 0.0;\n",
+        "HeapEmpty",
+        "the loop's own end, until another way is taken",
+    ),
+    before(
+        "                let best_face = &self.faces[best_face_id.id];\n",
+        "Converged",
+        "converged; the test's other half can't hold, as its bound has just been lowered",
+    ),
+    inside(
+        "            if self.silhouette.is_empty() {\n",
+        "EmptySilhouette",
+        "empty silhouette",
+    ),
+    inside(
+        "                        if dist < curr_dist {\n",
+        "NearerFace",
+        "a new face nearer than the current one",
+    ),
+    Edit(
+        "way out: a `?` on a new face's key, until that key is queued",
+        QUEUE_NEW_FACE,
+        indent(QUEUE_NEW_FACE)
+        + assignment("KeyRefusedLater")
+        + QUEUE_NEW_FACE
+        + indent(QUEUE_NEW_FACE)
+        + assignment("HeapEmpty"),
+    ),
+    inside(
+        "            if first_new_face_id == self.faces.len() {\n",
+        "NoNewFace",
+        "every edge of the silhouette had its face deleted",
+    ),
+    inside(
+        "            if niter > 100 {\n",
+        "LastExpansion",
+        "the 101st expansion",
+    ),
+]
+
+EQUAL = "        } else {\n            Ordering::Equal\n        }\n"
+
+ORDERS = {
+    "heap": [],
+    "first": [
+        Edit(
+            "of equal keys the face made first is the greater, so it pops first",
+            EQUAL,
+            "        } else {\n            other.id.cmp(&self.id)\n        }\n",
+        )
+    ],
+    "last": [
+        Edit(
+            "of equal keys the face made last is the greater, so it pops first",
+            EQUAL,
+            "        } else {\n            self.id.cmp(&other.id)\n        }\n",
+        )
+    ],
+}
+
+
+def apply(text: str, edit: Edit) -> str:
+    found = text.count(edit.old)
+    if found != edit.times:
+        sys.exit(f"edit_epa3.py: found {found} times, not {edit.times}: {edit.why}\n{edit.old}")
+    return text.replace(edit.old, edit.new)
+
+
+def edited(text: str, order: str) -> str:
+    for edit in EDITS + WAYS_OUT + ORDERS[order]:
+        text = apply(text, edit)
+    return text
+
+
+def print_edits() -> None:
+    groups = [("every copy", EDITS + WAYS_OUT)]
+    groups += [(f"order {name}", edits) for name, edits in ORDERS.items() if edits]
+    for group, edits in groups:
+        for edit in edits:
+            print(f"{group}: {edit.why}")
+            for sign, part in (("-", edit.old), ("+", edit.new)):
+                for line in part.rstrip("\n").split("\n"):
+                    print(f"  {sign} {line}")
+
+
+def main(arguments: list[str]) -> None:
+    if arguments == ["--list"]:
+        print_edits()
+    elif len(arguments) in (2, 3) and (arguments[2:] or ["heap"])[0] in ORDERS:
+        source, copy = arguments[:2]
+        order = (arguments[2:] or ["heap"])[0]
+        with open(source, encoding="utf-8") as file:
+            text = edited(file.read(), order)
+        with open(copy, "w", encoding="utf-8") as file:
+            file.write(text)
+    else:
+        sys.exit(__doc__)
+
+
+if __name__ == "__main__":
+    main(sys.argv[1:])

@@ -1,0 +1,14 @@
+//! The queries that are compiled.
+
+pub use self::point::{PointProjection, PointQuery, PointQueryWithLocation};
+pub use self::ray::Ray;
+
+pub mod epa;
+pub mod gjk;
+pub mod point;
+mod ray;
+
+/// Where gjk.rs looks for the ray test.
+pub mod details {
+    pub use super::ray::ray_toi_with_halfspace;
+}

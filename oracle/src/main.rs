@@ -1,0 +1,110 @@
+//! The oracle: the published Rust behind a case file. See oracle/README.md.
+
+mod casefile;
+mod channel;
+mod damage;
+mod edits;
+mod families;
+mod generate;
+mod heap;
+mod lines;
+mod order;
+mod random;
+mod run;
+mod smallest;
+mod stats;
+mod stores;
+
+use parry3d::query::epa::Rooms;
+use std::io::{self, Read};
+use std::path::Path;
+use std::process::ExitCode;
+
+const USAGE: &str = "\
+oracle run|stats|stores|order [ROOM...]   a case file on standard input
+oracle edits                              a case file on standard input
+oracle order smallest
+oracle heap
+oracle gen FAMILY SEED COUNT              a case file on standard output
+oracle damage SEED COUNT FOLDER           a case file on standard input
+ROOM is vertices=N, edges=N, faces=N or heap=N
+FAMILY is ordinary, grid, mixed, limits, bits, tiny, huge, touching, coincident, arms or all
+";
+
+/// Status 2: the command line is wrong. Status 1: input or output failed, or `edits` found a
+/// difference.
+fn main() -> ExitCode {
+    channel::silence_panics();
+    let arguments: Vec<String> = std::env::args().skip(1).collect();
+    let words: Vec<&str> = arguments.iter().map(String::as_str).collect();
+    match command(&words) {
+        Ok(Some(())) => ExitCode::SUCCESS,
+        Ok(None) => {
+            eprint!("{USAGE}");
+            ExitCode::from(2)
+        }
+        // Who reads the output may stop early.
+        Err(error) if error.kind() == io::ErrorKind::BrokenPipe => ExitCode::SUCCESS,
+        Err(error) => {
+            eprintln!("oracle: {error}");
+            ExitCode::FAILURE
+        }
+    }
+}
+
+/// `None` if the words are no command.
+fn command(words: &[&str]) -> io::Result<Option<()>> {
+    let mut input = io::stdin().lock();
+    let mut output = io::stdout().lock();
+    match words {
+        ["gen", family, seed, count] => {
+            let (Ok(seed), Ok(count)) = (seed.parse(), count.parse()) else {
+                return Ok(None);
+            };
+            let known = generate::generate(&mut output, family, seed, count)?;
+            return Ok(known.then_some(()));
+        }
+        ["damage", seed, count, folder] => {
+            let (Ok(seed), Ok(count)) = (seed.parse(), count.parse()) else {
+                return Ok(None);
+            };
+            let mut original = Vec::new();
+            input.read_to_end(&mut original)?;
+            damage::damage(&original, Path::new(folder), seed, count, channel::ROOMS)?;
+        }
+        ["edits"] => edits::edits(input, &mut output)?,
+        ["heap"] => heap::heap(&mut output)?,
+        ["order", "smallest"] => smallest::smallest(&mut output, channel::ROOMS)?,
+        [name, sizes @ ..] => {
+            let Some(rooms) = rooms(sizes) else {
+                return Ok(None);
+            };
+            match *name {
+                "run" => run::run(input, &mut output, rooms)?,
+                "stats" => stats::stats(input, &mut output, rooms)?,
+                "stores" => stores::stores(input, &mut output, rooms)?,
+                "order" => order::order(input, &mut output, rooms)?,
+                _ => return Ok(None),
+            }
+        }
+        [] => return Ok(None),
+    }
+    Ok(Some(()))
+}
+
+/// The rooms that the program lends, some of them changed.
+fn rooms(sizes: &[&str]) -> Option<Rooms> {
+    let mut rooms = channel::ROOMS;
+    for size in sizes {
+        let (store, room) = size.split_once('=')?;
+        let room = room.parse().ok()?;
+        match store {
+            "vertices" => rooms.vertices = room,
+            "edges" => rooms.edges = room,
+            "faces" => rooms.faces = room,
+            "heap" => rooms.heap = room,
+            _ => return None,
+        }
+    }
+    Some(rooms)
+}
