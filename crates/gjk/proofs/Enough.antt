@@ -1,0 +1,226 @@
+-- The turns of a run are never spent: 107 give what any larger number gives (`enough`), for any format, support function and simplex.
+-- A turn that goes on is a round, of which the hundredth ends the run, or it leaves the projection and the bound alone (`Step`). Then the bound doesn't fall in the next
+-- turn, which takes one of six perturbations or ends. So `left`, the rounds, the perturbations and one turn before a perturbation that are left, falls at each turn.
+use Prim.Native.Nat.{ℕ, zero, suc, _+_, _-_, _*_, _≤_, _<_}
+use mathlib.Core.Path.{_≡_, refl, sym, ap, _∙_}
+use mathlib.Core.Logic.{_⊎_, inl, inr}
+use mathlib.Core.Bool.{Bool, true, false, not, _&&_, _||_, cond, true≢false, false≢true}
+use native.Mathlib.Omega.{arith}
+use borrow.Author.Tests.{ltb-true, leb-false}
+use lib.Dec.{T, leb, ltb, eqb, eqb-refl}
+use lib.IntN.{ℤ}
+use lib.Ieee as Ieee
+use lib.Ieee.{Float, nan, inf, fin, Format, up, down, below, level, lt, le, eq}
+use lib.Ieee.Scale.{finite}
+use Rattle.number.specs.Constants.{epsTol}
+use Rattle.number.specs.Root.{root}
+use Rattle.vector.specs.declared.vec3.Vec3.{Vec3}
+use Rattle.vector.specs.declared.vec3.MaybeVec3.{MaybeVec3}
+use Rattle.vector.specs.declared.vec3.MaybeVec3.the-variants as Direction
+use Rattle.vector.specs.Vector.{zeroF, negV, dotV, tryNormalizeV, normalizeAndLengthV, _⊖_, _⊗_}
+use Rattle.shape.specs.declared.vertex.Vertex.{Vertex}
+use Rattle.simplex.specs.declared.simplex.VoronoiSimplex.{VoronoiSimplex}
+use Rattle.simplex.specs.declared.operations.Answer.{Answer}
+use Rattle.simplex.specs.declared.operations.Answer.the-variants as Added
+use Rattle.simplex.specs.declared.operations.Projected.{Projected}
+use Rattle.simplex.specs.declared.operations.Projected.the-variants as Projection
+use Rattle.simplex.specs.Operations.{addPoint}
+use Rattle.simplex.specs.Reduction.{projectOriginAndReduce}
+use Rattle.gjk.specs.declared.rounds.GJKResult.{GJKResult}
+use Rattle.gjk.specs.declared.rounds.GJKResult.the-variants.{Intersection, Refused}
+use Rattle.gjk.specs.declared.rounds.Gjk.{Gjk}
+use Rattle.gjk.specs.declared.rounds.Round.{Round}
+use Rattle.gjk.specs.declared.rounds.Next.{Next}
+use Rattle.gjk.specs.declared.rounds.Next.the-variants.{Onward, Ended}
+use Rattle.gjk.specs.declared.rounds.Turn.{Turn}
+use Rattle.gjk.specs.Perturbed.{perturbedDir}
+use Rattle.gjk.specs.Gjk.{Search, onwardWith, endedWith, touching, closestBy, apartBy, stalled, roundAfter, reducedTo, advanced, addedBy, extended, bounded, bettered, probed, perturbedRound, stagnated, boundedBy, turnOf, after, runOf, startIn, startAt, startOf, firstRound, finishedBy, closestWithin, closestPoints}
+
+-- ---- a turn that ends doesn't go on
+no-end : {A : Type 0} (x : GJKResult) (r : Round) → Ended x ≡ Onward r → A
+no-end x r h = let z : _≡_ {A = ℕ} 0 1 = cc in absurd (omega arith)
+
+-- ---- a number above another compares with itself
+self : (d e : Float) → lt e d ≡ true → le d d ≡ true
+unfolding lt le eq
+self nan nan h = h
+self nan (inf s) h = h
+self nan (fin s m e) h = h
+self (inf true) e h = refl
+self (inf false) e h = refl
+self (fin s m e) d h = alike s (m * up e * down e)
+  where
+    either : (t u : Bool) → T u → t || (u && true) ≡ true
+    either true u h = refl
+    either false true h = refl
+    either false false h = absurd h
+
+    alike : (s : Bool) (a : ℕ) → below s a s a || level s a s a ≡ true
+    alike true a = either (ltb a a) (eqb a a) (eqb-refl a)
+    alike false a = either (ltb a a) (eqb a a) (eqb-refl a)
+
+-- ---- how a turn goes on: the round stands as it is and a perturbation is left, or it is the next round
+data Step (r q : Round) : Type 0 where
+  stood : q ≡ r → r .«nb_perturbs» < 6 → Step r q
+  went : r .niter < 99 → q .niter ≡ r .niter + 1 → q .«nb_perturbs» ≡ r .«nb_perturbs» → Step r q
+
+module _ (f : Format) (k : Search) where
+  stalled-step : (s : VoronoiSimplex) (r q : Round) (dir : Vec3) → stalled f k s r dir .next ≡ Onward q → Step r q
+  unfolding stalled
+  stalled-step s r q dir h = go (lt zeroF (r .«best_min_bound»)) (touching f k r) (ltb (r .«nb_perturbs») 6) _ _ _ refl h
+    where
+      go : (b t p : Bool) (x y z : GJKResult) → ltb (r .«nb_perturbs») 6 ≡ p → cond b (endedWith s x) (cond t (endedWith s y) (cond p (onwardWith s r) (endedWith s z))) .next ≡ Onward q → Step r q
+      go true t p x y z e h = no-end x q h
+      go false true p x y z e h = no-end y q h
+      go false false true x y z e h = stood (cc) (ltb-true (r .«nb_perturbs») 6 e)
+      go false false false x y z e h = no-end z q h
+
+  reduced-step : (s : VoronoiSimplex) (p : Projected) (r q : Round) (dir : Vec3) (m : Float) → reducedTo f k s p r dir m .next ≡ Onward q → Step r q
+  unfolding roundAfter
+  reduced-step s Projection.Refused r q dir m h = no-end _ q h
+  reduced-step s (Projection.At proj) r q dir m h = go (eqb (s .dim) 3) (le (epsTol f) m) (leb 99 (r .niter)) _ _ _ refl h
+    where
+      go : (d b l : Bool) (x y z : GJKResult) → leb 99 (r .niter) ≡ l → cond d (cond b (endedWith s x) (endedWith s y)) (cond l (endedWith s z) (onwardWith s (roundAfter f r proj dir))) .next ≡ Onward q → Step r q
+      go true true l x y z e h = no-end x q h
+      go true false l x y z e h = no-end y q h
+      go false b true x y z e h = no-end z q h
+      go false b false x y z e h =
+          let same : roundAfter f r proj dir ≡ q = cc in
+          went (leb-false 99 (r .niter) e) (sym (ap (λ (t : Round). t .niter) same)) (sym (ap (λ (t : Round). t .«nb_perturbs») same))
+
+  added-step : (s : VoronoiSimplex) (a : Answer) (r q : Round) (dir : Vec3) (m : Float) → addedBy f k s a r dir m .next ≡ Onward q → Step r q
+  unfolding advanced
+  added-step s Added.Yes r q dir m h = let t = projectOriginAndReduce f s in reduced-step (t .simplex) (t .projection) r q dir m h
+  added-step s Added.No r q dir m h = stalled-step s r q dir h
+  added-step s Added.Refused r q dir m h = no-end _ q h
+
+  bounded-step : (s : VoronoiSimplex) (r q : Round) (dir : Vec3) (m : Float) (v : Vertex) → bounded f k s r dir m v .next ≡ Onward q → Step r q
+  unfolding bounded extended
+  bounded-step s r q dir m v h =
+      go (lt (k .maxDist) m) (not (k .exact) && lt zeroF m && le (r .«max_bound») (k .maxDist))
+      (le (_⊖_ f (r .«max_bound») m) (_⊗_ f (k .epsRel) (r .«max_bound»))) _ _ _ h
+    where
+      go : (a b c : Bool) (x y z : GJKResult) → cond a (endedWith s x) (cond b (endedWith s y) (cond c (endedWith s z) (extended f k s r dir m v))) .next ≡ Onward q → Step r q
+      go true b c x y z h = no-end x q h
+      go false true c x y z h = no-end y q h
+      go false false true x y z h = no-end z q h
+      go false false false x y z h = let t = addPoint f s v in added-step (t .simplex) (t .answer) r q dir m h
+
+  -- what a probe goes on from: the round with the bounds of the new vertex
+  probed-step : (s : VoronoiSimplex) (r q : Round) (dir : Vec3) → probed f k s r dir .next ≡ Onward q → (m : Float) × (v : Vertex) × Step (bettered f r m v) q
+  unfolding probed
+  probed-step s r q dir h =
+      let v = k .supp dir in
+      let m = Ieee.neg (dotV f dir (v .point)) in
+      (m, v, go (finite m) m v h)
+    where
+      go : (b : Bool) (m : Float) (v : Vertex) → cond b (bounded f k s (bettered f r m v) dir m v) (endedWith s Refused) .next ≡ Onward q → Step (bettered f r m v) q
+      go true m v h = bounded-step s (bettered f r m v) q dir m v h
+      go false m v h = no-end Refused q h
+
+  -- a turn whose bound doesn't fall takes a perturbation
+  stagnated-step : (s : VoronoiSimplex) (r q : Round) (dir : Vec3) → stagnated f k s r dir .next ≡ Onward q → (r .«nb_perturbs» < 6) × ((m : Float) × (v : Vertex) × Step (bettered f (perturbedRound f r) m v) q)
+  unfolding stagnated
+  stagnated-step s r q dir h = go (lt zeroF (r .«best_min_bound»)) (touching f k r) (ltb (r .«nb_perturbs») 6) _ _ _ refl h
+    where
+      go : (b t p : Bool) (x y z : GJKResult) → ltb (r .«nb_perturbs») 6 ≡ p → cond b (endedWith s x) (cond t (endedWith s y) (cond p (probed f k s (perturbedRound f r) (perturbedDir f dir (r .«nb_perturbs» + 1))) (endedWith s z))) .next ≡ Onward q → (r .«nb_perturbs» < 6) × ((m : Float) × (v : Vertex) × Step (bettered f (perturbedRound f r) m v) q)
+      go true t p x y z e h = no-end x q h
+      go false true p x y z e h = no-end y q h
+      go false false true x y z e h = (ltb-true (r .«nb_perturbs») 6 e, probed-step s (perturbedRound f r) q (perturbedDir f dir (r .«nb_perturbs» + 1)) h)
+      go false false false x y z e h = no-end z q h
+
+  -- ---- what is left of a run
+  dist : Round → Float
+  dist r = normalizeAndLengthV f (negV (r .proj)) .length
+
+  -- whether the bound doesn't fall in the next turn
+  stuck : Round → Bool
+  stuck r = le (r .«max_bound») (dist r)
+
+  one : Bool → ℕ
+  one true = 0
+  one false = 1
+
+  left : Round → ℕ
+  left r = 99 - r .niter + (6 - r .«nb_perturbs») + one (stuck r)
+
+  one-most : (b : Bool) → one b ≤ 1
+  unfolding one
+  one-most true = omega arith
+  one-most false = omega arith
+
+  -- a round that stands as it is, but for its bounds and perturbations, doesn't lower the bound
+  stands : (r q : Round) → lt (epsTol f) (dist r) ≡ true → q .«max_bound» ≡ dist r → q .proj ≡ r .proj → one (stuck q) ≡ 0
+  unfolding stuck dist one
+  stands r q l b p = ap one (ap (λ (v : Vec3). le (q .«max_bound») (normalizeAndLengthV f (negV v) .length)) p ∙ ap (λ (m : Float). le m (dist r)) b ∙ self (dist r) (epsTol f) l)
+
+  stuck-less : (r q : Round) (m : Float) (v : Vertex) → lt (epsTol f) (dist r) ≡ true → r .«nb_perturbs» < 6 → Step (bettered f (perturbedRound f (boundedBy f r (dist r))) m v) q → left q < 99 - r .niter + (6 - r .«nb_perturbs»)
+  unfolding left bettered perturbedRound boundedBy
+  stuck-less r q m v l p (stood e _) = rw e (omega (arith, stands r (bettered f (perturbedRound f (boundedBy f r (dist r))) m v) l refl refl))
+  stuck-less r q m v l p (went n i b) =
+      let round : q .niter ≡ r .niter + 1 = i in
+      let perturbed : q .«nb_perturbs» ≡ r .«nb_perturbs» + 1 = b in
+      let early : r .niter < 99 = n in
+      omega (arith, one-most (stuck q))
+
+  free-less : (r q : Round) (m : Float) (v : Vertex) → lt (epsTol f) (dist r) ≡ true → Step (bettered f (boundedBy f r (dist r)) m v) q → left q < 99 - r .niter + (6 - r .«nb_perturbs») + 1
+  unfolding left bettered boundedBy
+  free-less r q m v l (stood e _) = rw e (omega (arith, stands r (bettered f (boundedBy f r (dist r)) m v) l refl refl))
+  free-less r q m v l (went n i b) =
+      let round : q .niter ≡ r .niter + 1 = i in
+      let perturbed : q .«nb_perturbs» ≡ r .«nb_perturbs» = b in
+      let early : r .niter < 99 = n in
+      omega (arith, one-most (stuck q))
+
+  -- at each turn that goes on, less is left
+  falls : (s : VoronoiSimplex) (r q : Round) → turnOf f k s r .next ≡ Onward q → left q < left r
+  unfolding turnOf boundedBy left stuck dist one
+  falls s r q h = go (lt (epsTol f) (dist r)) (stuck r) refl refl h
+    where
+      dir : Vec3
+      dir = normalizeAndLengthV f (negV (r .proj)) .normalized
+
+      go : (t u : Bool) → lt (epsTol f) (dist r) ≡ t → stuck r ≡ u → cond t (cond u (stagnated f k s (boundedBy f r (dist r)) dir) (probed f k s (boundedBy f r (dist r)) dir)) (endedWith s Intersection) .next ≡ Onward q → left q < 99 - r .niter + (6 - r .«nb_perturbs») + one u
+      go true true l u h = let p = stagnated-step s (boundedBy f r (dist r)) q dir h in omega (arith, stuck-less r q (p .1 .0) (p .1 .1) l (p .0) (p .1 .2))
+      go true false l u h = let p = probed-step s (boundedBy f r (dist r)) q dir h in free-less r q (p .0) (p .1) l (p .2)
+      go false u l v h = no-end Intersection q h
+
+  -- so a run with more turns than are left has turns to spare
+  spare : (n m : ℕ) (s : VoronoiSimplex) (r : Round) → left r < n → n ≤ m → runOf f k m s r ≡ runOf f k n s r
+  unfolding runOf after
+  spare zero m s r h l = absurd (omega arith)
+  spare (suc n) zero s r h l = absurd (omega arith)
+  spare (suc n) (suc m) s r h l =
+      go (turnOf f k s r .simplex) (turnOf f k s r .next) (λ q e. spare n m (turnOf f k s r .simplex) q (omega (arith, falls s r q e)) (omega arith))
+    where
+      go : (t : VoronoiSimplex) (x : Next) → ((q : Round) → x ≡ Onward q → runOf f k m t q ≡ runOf f k n t q) → after f (runOf f k m) t x ≡ after f (runOf f k n) t x
+      go t (Ended x) e = refl
+      go t (Onward q) e = e q refl
+
+  -- the first round has all before it
+  starts : (s : VoronoiSimplex) (r : Round) → startOf f s .next ≡ Onward r → left r < 107
+  unfolding startOf left firstRound
+  starts s r h = let t = projectOriginAndReduce f s in go (t .simplex) (t .projection) h
+    where
+      within : (s : VoronoiSimplex) (proj : Vec3) (d : MaybeVec3) → startIn f s proj d .next ≡ Onward r → left r < 107
+      within s proj (Direction.Some d) h =
+          let same : firstRound f proj d ≡ r = cc in
+          let rounds : r .niter ≡ 0 = sym (ap (λ (q : Round). q .niter) same) in
+          let perturbed : r .«nb_perturbs» ≡ 0 = sym (ap (λ (q : Round). q .«nb_perturbs») same) in
+          omega (arith, one-most (stuck r))
+      within s proj Direction.None h = no-end Intersection r h
+
+      go : (s : VoronoiSimplex) (p : Projected) → startAt f s p .next ≡ Onward r → left r < 107
+      go s (Projection.At proj) h = within s proj (tryNormalizeV f proj) h
+      go s Projection.Refused h = no-end Refused r h
+
+-- 107 turns are enough: any more give the same
+pub enough : (turns : ℕ) → 107 ≤ turns → (f : Format) (supp : Vec3 → Vertex) (maxDist : Float) (exact : Bool) (s : VoronoiSimplex) → closestWithin turns f supp maxDist exact s ≡ closestPoints f supp maxDist exact s
+unfolding closestWithin closestPoints after
+enough turns l f supp maxDist exact s =
+    let k : Search = record { supp = supp; maxDist = maxDist; exact = exact; epsRel = root f (epsTol f) } in
+    ap (finishedBy s) (go k (startOf f s .simplex) (startOf f s .next) (λ r e. starts f k s r e))
+  where
+    go : (k : Search) (t : VoronoiSimplex) (x : Next) → ((r : Round) → x ≡ Onward r → left f k r < 107) → after f (runOf f k turns) t x ≡ after f (runOf f k 107) t x
+    go k t (Ended x) h = refl
+    go k t (Onward r) h = spare f k 107 turns t r (h r refl) l

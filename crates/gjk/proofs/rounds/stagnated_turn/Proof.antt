@@ -1,0 +1,29 @@
+-- `stagnated_turn` returns `stagnated`, test by test.
+use borrow.Author.Needs.{needs}
+use borrow.Author.Tests.{le-ltb, lt-ltb}
+use lib.Ieee.{ofBits}
+use Rattle.gjk.specs.Gjk.{perturbedRound, stagnated}
+use Rattle.gjk.proofs.rounds.stagnated_turn.Statement.{statement}
+use Rattle.gjk.proofs.rounds.stagnated_turn.Tie as tie
+
+returns : tie.Need-returns
+unfolding stagnated perturbedRound ofBits
+returns c = simp (← c .before .apart-by .ensures, ← c .ended .ensures, c .before .before .if1 .taken)
+
+returns-2 : tie.Need-returns-2
+unfolding stagnated perturbedRound ofBits
+returns-2 c = simp (← c .before .before .before .is-touching .ensures, ← c .before .closest-by .ensures, ← c .ended2 .ensures, c .before .before .if2 .taken, c .before .before .before .before .if1 .left)
+
+perturbed-dir-requires : tie.Need-perturbed-dir-requires
+perturbed-dir-requires c κs = search needs
+
+returns-3 : tie.Need-returns-3
+unfolding stagnated perturbedRound ofBits
+returns-3 c = simp (← c .before .before .before .before .before .before .is-touching .ensures, ← c .before .perturbed-dir .ensures, ← c .probed-turn .ensures, lt-ltb _ _ (c .before .before .before .if3 .taken), c .before .before .before .before .before .if2 .left, c .before .before .before .before .before .before .before .if1 .left)
+
+returns-4 : tie.Need-returns-4
+unfolding stagnated perturbedRound ofBits
+returns-4 c = simp (← c .before .before .before .before .is-touching .ensures, ← c .ended3 .ensures, le-ltb _ _ (c .before .if3 .left), c .before .before .before .if2 .left, c .before .before .before .before .before .if1 .left)
+
+pub stagnated-turn-spec : {M : Type 1} → statement M
+stagnated-turn-spec = tie.close (tie.spec (λ c κs. tt) (λ c κs. tt) returns (λ c κs. tt) (λ c κs. tt) (λ c κs. tt) returns-2 (λ c. search needs) perturbed-dir-requires (λ c κs. tt) returns-3 (λ c κs. tt) returns-4)

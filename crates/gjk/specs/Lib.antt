@@ -1,0 +1,3 @@
+pub mod Witnesses
+pub mod Perturbed
+pub mod Gjk

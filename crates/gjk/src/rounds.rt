@@ -1,0 +1,359 @@
+// `closest_points` of gjk.rs: the start, the rounds and their ways out.
+ghost use mathlib.Core.Path.{_≡_};
+ghost use lib.Ieee.{binary32};
+ghost use Rattle.gjk.specs.Gjk.{searchOf, closestBy, apartBy, touching, stalled, advanced, extended, bounded, probed, stagnated};
+ghost use Rattle.shape.specs.Support.{fromShapes};
+ghost use Rattle.gjk.specs.Gjk.{onwardWith, endedWith};
+ghost use Rattle.gjk.specs.Gjk.{turnOf, runOf, startOf, finishedBy, closestPoints};
+use crate::perturbed::perturbed_dir;
+use crate::witnesses::Witnesses;
+use crate::witnesses::result;
+use shape::Shape;
+use shape::Vertex;
+use shape::from_shapes;
+use simplex::Answer;
+use simplex::Projected;
+use simplex::VoronoiSimplex;
+use vector::MaybeVec3;
+use vector::Pose;
+use vector::Vec3;
+
+// The Rust's four results, and the refusal.
+pub enum GJKResult {
+    Intersection,
+    ClosestPoints(Vec3, Vec3, Vec3),
+    Proximity(Vec3),
+    NoIntersection(Vec3),
+    Refused,
+}
+
+pub struct Gjk {
+    pub simplex: VoronoiSimplex,
+    pub result: GJKResult,
+}
+
+// What a run is asked, and the tolerance that it computes once.
+struct Query {
+    pos12: Pose,
+    g1: Shape,
+    g2: Shape,
+    max_dist: f32,
+    exact_dist: bool,
+    eps_rel: f32,
+}
+
+// What the Rust's loop carries from round to round, besides the simplex.
+struct Round {
+    proj: Vec3,
+    old_dir: Vec3,
+    max_bound: f32,
+    best_min_bound: f32,
+    support_scale: f32,
+    nb_perturbs: usize,
+    niter: usize,
+}
+
+enum Next {
+    Onward(Round),
+    Ended(GJKResult),
+}
+
+struct Turn {
+    simplex: VoronoiSimplex,
+    next: Next,
+}
+
+fn onward(simplex: VoronoiSimplex, round: Round) -> Turn
+    ensures { λ r. ⌜ r ≡ onwardWith simplex round ⌝ }
+{
+    Turn {
+        simplex,
+        next: Next::Onward(round),
+    }
+}
+
+fn ended(simplex: VoronoiSimplex, result: GJKResult) -> Turn
+    ensures { λ r. ⌜ r ≡ endedWith simplex result ⌝ }
+{
+    Turn {
+        simplex,
+        next: Next::Ended(result),
+    }
+}
+
+fn closest_by(simplex: VoronoiSimplex, prev: bool, dir: Vec3) -> GJKResult
+    ensures { λ r. ⌜ r ≡ closestBy binary32 simplex prev dir ⌝ }
+{
+    match result(simplex, prev) {
+        Witnesses::At(p1, p2) => GJKResult::ClosestPoints(p1, p2, dir),
+        Witnesses::Refused => GJKResult::Refused,
+    }
+}
+
+// Separation is certified: the witnesses are the answer, or the direction alone.
+fn apart_by(exact_dist: bool, simplex: VoronoiSimplex, prev: bool, dir: Vec3) -> GJKResult
+    ensures { λ r. ⌜ r ≡ apartBy binary32 «exact_dist» simplex prev dir ⌝ }
+{
+    if exact_dist {
+        return closest_by(simplex, prev, dir);
+    }
+    GJKResult::Proximity(dir)
+}
+
+// Whether the origin is on the boundary, so that the witnesses describe the contact.
+fn is_touching(q: Query, r: Round) -> bool
+    ensures { λ t. ⌜ t ≡ touching binary32 (searchOf q) r ⌝ }
+{
+    q.exact_dist & (r.best_min_bound >= -q.eps_rel * r.support_scale)
+}
+
+// The new vertex adds nothing: decided by the best bound, or back to the top for a perturbation.
+fn stalled_turn(q: Query, simplex: VoronoiSimplex, r: Round, dir: Vec3) -> Turn
+    ensures { λ t. ⌜ t ≡ stalled binary32 (searchOf q) simplex r dir ⌝ }
+{
+    if r.best_min_bound > 0.0 {
+        return ended(simplex, apart_by(q.exact_dist, simplex, false, dir));
+    }
+    if is_touching(q, r) {
+        return ended(simplex, closest_by(simplex, false, dir));
+    }
+    if r.nb_perturbs < 6 {
+        return onward(simplex, r);
+    }
+    ended(simplex, GJKResult::Intersection)
+}
+
+// The vertex is in: the simplex is reduced, and the round is over.
+fn advanced_turn(q: Query, simplex: VoronoiSimplex, r: Round, dir: Vec3, min_bound: f32) -> Turn
+    ensures { λ t. ⌜ t ≡ advanced binary32 (searchOf q) simplex r dir «min_bound» ⌝ }
+{
+    let reduced = simplex.project_origin_and_reduce();
+    let smaller = reduced.simplex;
+    let projection = reduced.projection;
+    let Projected::At(proj) = projection else {
+        return ended(smaller, GJKResult::Refused);
+    };
+    if smaller.dim == 3 {
+        if min_bound >= number::eps_tol() {
+            return ended(smaller, apart_by(q.exact_dist, smaller, true, dir));
+        }
+        return ended(smaller, GJKResult::Intersection);
+    }
+    if 99 <= r.niter {
+        return ended(smaller, GJKResult::NoIntersection(Vec3::X));
+    }
+    let mut next = r;
+    next.proj = proj;
+    next.old_dir = dir;
+    next.niter = r.niter + 1;
+    onward(smaller, next)
+}
+
+fn extended_turn(
+    q: Query,
+    simplex: VoronoiSimplex,
+    r: Round,
+    dir: Vec3,
+    min_bound: f32,
+    cso_point: Vertex,
+) -> Turn
+    ensures { λ t. ⌜ t ≡ extended binary32 (searchOf q) simplex r dir «min_bound» «cso_point» ⌝ }
+{
+    let added = simplex.add_point(cso_point);
+    let larger = added.simplex;
+    let answer = added.answer;
+    match answer {
+        Answer::Yes => advanced_turn(q, larger, r, dir, min_bound),
+        Answer::No => stalled_turn(q, larger, r, dir),
+        Answer::Refused => ended(larger, GJKResult::Refused),
+    }
+}
+
+// What the bounds decide before the new vertex is added.
+fn bounded_turn(
+    q: Query,
+    simplex: VoronoiSimplex,
+    r: Round,
+    dir: Vec3,
+    min_bound: f32,
+    cso_point: Vertex,
+) -> Turn
+    ensures { λ t. ⌜ t ≡ bounded binary32 (searchOf q) simplex r dir «min_bound» «cso_point» ⌝ }
+{
+    if min_bound > q.max_dist {
+        return ended(simplex, GJKResult::NoIntersection(dir));
+    }
+    if !q.exact_dist & (min_bound > 0.0) & (r.max_bound <= q.max_dist) {
+        let old_dir = r.old_dir;
+        return ended(simplex, GJKResult::Proximity(old_dir));
+    }
+    if r.max_bound - min_bound <= q.eps_rel * r.max_bound {
+        return ended(simplex, apart_by(q.exact_dist, simplex, false, dir));
+    }
+    extended_turn(q, simplex, r, dir, min_bound, cso_point)
+}
+
+// The support point of `dir`, and the bounds it gives. The Rust asserts that the lower one is finite.
+fn probed_turn(q: Query, simplex: VoronoiSimplex, r: Round, dir: Vec3) -> Turn
+    ensures { λ t. ⌜ t ≡ probed binary32 (searchOf q) simplex r dir ⌝ }
+{
+    let pos12 = q.pos12;
+    let g1 = q.g1;
+    let g2 = q.g2;
+    let cso_point = from_shapes(pos12, g1, g2, dir);
+    let point = cso_point.point;
+    let min_bound = -dir.dot(point);
+    if number::is_finite(min_bound) {
+        let mut next = r;
+        next.best_min_bound = number::max(r.best_min_bound, min_bound);
+        next.support_scale = number::max(r.support_scale, point.length());
+        return bounded_turn(q, simplex, next, dir, min_bound, cso_point);
+    }
+    ended(simplex, GJKResult::Refused)
+}
+
+// The upper bound does not fall: decided by the best lower bound, or `dir` is perturbed.
+fn stagnated_turn(q: Query, simplex: VoronoiSimplex, r: Round, dir: Vec3) -> Turn
+    ensures { λ t. ⌜ t ≡ stagnated binary32 (searchOf q) simplex r dir ⌝ }
+{
+    let old_dir = r.old_dir;
+    if r.best_min_bound > 0.0 {
+        return ended(simplex, apart_by(q.exact_dist, simplex, true, old_dir));
+    }
+    if is_touching(q, r) {
+        return ended(simplex, closest_by(simplex, true, old_dir));
+    }
+    if r.nb_perturbs < 6 {
+        let seed = r.nb_perturbs + 1;
+        let mut next = r;
+        next.nb_perturbs = seed;
+        return probed_turn(q, simplex, next, perturbed_dir(dir, seed));
+    }
+    ended(simplex, GJKResult::Intersection)
+}
+
+// One turn of the Rust's loop.
+fn turn_of(q: Query, simplex: VoronoiSimplex, r: Round) -> Turn
+    ensures { λ t. ⌜ t ≡ turnOf binary32 (searchOf q) simplex r ⌝ }
+{
+    let proj = r.proj;
+    let unit = proj.neg().normalize_and_length();
+    let dir = unit.normalized;
+    let dist = unit.length;
+    if dist > number::eps_tol() {
+        let mut next = r;
+        next.max_bound = dist;
+        if dist >= r.max_bound {
+            return stagnated_turn(q, simplex, next, dir);
+        }
+        return probed_turn(q, simplex, next, dir);
+    }
+    ended(simplex, GJKResult::Intersection)
+}
+
+// The turns. A hundred rounds end the run, and a turn that is no round is followed by one of six
+// perturbations, so 107 turns are never spent (`proofs/Enough.antt`).
+fn run_of(q: Query, simplex: VoronoiSimplex, start: Round) -> Gjk
+    ensures { λ g. ⌜ g ≡ runOf binary32 (searchOf q) 107 simplex start ⌝ }
+{
+    let mut present = simplex;
+    let mut r = start;
+    let mut i: usize = 0;
+    while i < 107 {
+        let turn = turn_of(q, present, r);
+        let next = turn.next;
+        let last = turn.simplex;
+        match next {
+            Next::Ended(result) => {
+                return Gjk {
+                    simplex: last,
+                    result,
+                };
+            }
+            Next::Onward(t) => {
+                present = last;
+                r = t;
+            }
+        }
+        i = i + 1;
+    }
+    Gjk {
+        simplex: present,
+        result: GJKResult::NoIntersection(Vec3::X),
+    }
+}
+
+// What stands before the loop.
+fn start_of(simplex: VoronoiSimplex) -> Turn
+    ensures { λ t. ⌜ t ≡ startOf binary32 simplex ⌝ }
+{
+    let reduced = simplex.project_origin_and_reduce();
+    let smaller = reduced.simplex;
+    let projection = reduced.projection;
+    let Projected::At(proj) = projection else {
+        return ended(smaller, GJKResult::Refused);
+    };
+    let unit = proj.try_normalize();
+    let MaybeVec3::Some(proj_dir) = unit else {
+        return ended(smaller, GJKResult::Intersection);
+    };
+    let largest = number::largest();
+    let round = Round {
+        proj,
+        old_dir: proj_dir.neg(),
+        max_bound: largest,
+        best_min_bound: -largest,
+        support_scale: 0.0,
+        nb_perturbs: 0,
+        niter: 0,
+    };
+    onward(smaller, round)
+}
+
+// Refusal 2 hands the simplex back as it came in.
+fn finished(given: VoronoiSimplex, run: Gjk) -> Gjk
+    ensures { λ g. ⌜ g ≡ finishedBy given run ⌝ }
+{
+    let result = run.result;
+    match result {
+        GJKResult::Refused => Gjk {
+            simplex: given,
+            result: GJKResult::Refused,
+        },
+        _ => run,
+    }
+}
+
+// The distance of two shapes, or that they meet. `pos12` is the pose of `g2` in the frame of `g1`.
+pub fn closest_points(
+    pos12: Pose,
+    g1: Shape,
+    g2: Shape,
+    max_dist: f32,
+    exact_dist: bool,
+    simplex: VoronoiSimplex,
+) -> Gjk
+    ensures { λ g. ⌜ g ≡ closestPoints binary32 (fromShapes binary32 pos12 g1 g2) «max_dist» «exact_dist» simplex ⌝ }
+{
+    let q = Query {
+        pos12,
+        g1,
+        g2,
+        max_dist,
+        exact_dist,
+        eps_rel: number::sqrt(number::eps_tol()),
+    };
+    let start = start_of(simplex);
+    let next = start.next;
+    let smaller = start.simplex;
+    match next {
+        Next::Ended(result) => finished(
+            simplex,
+            Gjk {
+                simplex: smaller,
+                result,
+            },
+        ),
+        Next::Onward(r) => finished(simplex, run_of(q, smaller, r)),
+    }
+}

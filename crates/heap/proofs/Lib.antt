@@ -1,0 +1,8 @@
+-- Laws of the heap's definition, for the proofs of this crate and of those that call it, and the known cases.
+pub mod Steps
+pub mod Moves
+pub mod Places
+pub mod Faces
+pub mod Answers
+pub mod Told
+pub mod Examples

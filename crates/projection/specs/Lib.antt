@@ -1,0 +1,5 @@
+pub mod Relative
+pub mod Inside
+pub mod Segment
+pub mod Triangle
+pub mod Tetrahedron

@@ -1,0 +1,152 @@
+-- The projection of a point on a triangle in space, taken as solid, of any format f: `point_triangle.rs`, with the tests in its order, one rounding each; and of
+-- `triangle.rs` `is_affinely_dependent` and `barycentric_coordinates`. Definitions only.
+-- Those texts are not published with the crate's: docs/DECISIONS.md says what stands in for them.
+use Prim.Native.Nat.{ℕ}
+use mathlib.Core.Bool.{Bool, false, cond, _&&_}
+use lib.IntN.{pos}
+use lib.Dec.{eqb}
+use lib.Ieee as Ieee
+use lib.Ieee.{Float, Format, fin, lt, le, ne}
+use Rattle.vector.specs.declared.vec3.Vec3.{Vec3}
+use Rattle.vector.specs.Vector.{zeroF, oneF, addV, subV, scaleV, dotV, crossV, lengthSquaredV, _⊕_, _⊖_, _⊗_, _⊘_}
+use Rattle.number.specs.Constants.{epsilon}
+use Rattle.projection.specs.Relative.{relativeEq}
+use Rattle.projection.specs.declared.triangle.Triangle.{Triangle}
+use Rattle.projection.specs.declared.triangle.TrianglePointLocation.{TrianglePointLocation}
+use Rattle.projection.specs.declared.triangle.TrianglePointLocation.the-variants.{OnVertex, OnEdge, OnFace, OnSolid}
+use Rattle.projection.specs.declared.triangle.TriangleProjection.{TriangleProjection}
+use Rattle.projection.specs.declared.triangle.BarycentricCoordinates.{BarycentricCoordinates}
+use Rattle.projection.specs.declared.triangle.BarycentricCoordinates.the-variants as Weights
+use Rattle.projection.specs.declared.triangle.Differences.{Differences}
+use Rattle.projection.specs.declared.triangle.Dots.{Dots}
+use Rattle.projection.specs.declared.triangle.MaybeProjection.{MaybeProjection}
+use Rattle.projection.specs.declared.triangle.MaybeProjection.the-variants.{Some, None}
+use Rattle.projection.specs.declared.triangle.ProjectionInfo.{ProjectionInfo}
+use Rattle.projection.specs.declared.triangle.ProjectionInfo.the-variants as Info
+
+-- the literal 100.0
+abbrev hundredF : Float
+hundredF = fin false 25 (pos 2)
+
+-- x >= 0.0, x <= 0.0
+abbrev high : Float → Bool
+high x = le zeroF x
+
+abbrev low : Float → Bool
+low x = le x zeroF
+
+-- ---- the Voronoi regions of the corners
+unfoldable pub onVertex : ℕ → Vec3 → MaybeProjection
+onVertex i corner = Some (record { point = corner; location = OnVertex i })
+
+unfoldable pub vertexRegion : Triangle → Dots → MaybeProjection
+vertexRegion t k =
+    cond (low (k .«ab_ap») && low (k .«ac_ap»)) (onVertex 0 (t .a))
+    (cond (high (k .«ab_bp») && le (k .«ac_bp») (k .«ab_bp»)) (onVertex 1 (t .b))
+    (cond (high (k .«ac_cp») && le (k .«ab_cp») (k .«ac_cp»)) (onVertex 2 (t .c)) None))
+
+-- what was found, or else the other
+unfoldable pub orElse : MaybeProjection → TriangleProjection → TriangleProjection
+orElse (Some found) other = found
+orElse None other = other
+
+-- the face's number: `if n.dot(ap) >= 0.0 { 0 } else { 1 }`
+unfoldable pub faceSide : Float → ℕ
+faceSide «n_ap» = cond (high «n_ap») 0 1
+
+module _ (f : Format) where
+  -- the edges, the way to pt from each corner, and their products
+  unfoldable pub differences : Triangle → Vec3 → Differences
+  differences t pt =
+      record {
+        ab = subV f (t .b) (t .a);
+        ac = subV f (t .c) (t .a);
+        bc = subV f (t .c) (t .b);
+        ap = subV f pt (t .a);
+        bp = subV f pt (t .b);
+        cp = subV f pt (t .c);
+      }
+
+  unfoldable pub dots : Differences → Dots
+  dots v =
+      record {
+        «ab_ap» = dotV f (v .ab) (v .ap);
+        «ac_ap» = dotV f (v .ac) (v .ap);
+        «ab_bp» = dotV f (v .ab) (v .bp);
+        «ac_bp» = dotV f (v .ac) (v .bp);
+        «ab_cp» = dotV f (v .ab) (v .cp);
+        «ac_cp» = dotV f (v .ac) (v .cp);
+      }
+
+  -- the Voronoi regions of the edges, else the face
+  unfoldable pub checkEdges : Differences → Dots → ProjectionInfo
+  checkEdges v k =
+      let n = crossV f (v .ab) (v .ac) in
+      let vc = dotV f n (crossV f (v .ab) (v .ap)) in
+      let vb = Ieee.neg (dotV f n (crossV f (v .ac) (v .cp))) in
+      let va = dotV f n (crossV f (v .bc) (v .bp)) in
+      cond (lt vc zeroF && high (k .«ab_ap») && low (k .«ab_bp»)) Info.OnAB
+      (cond (lt vb zeroF && high (k .«ac_ap») && low (k .«ac_cp»)) Info.OnAC
+      (cond (lt va zeroF && high (_⊖_ f (k .«ac_bp») (k .«ab_bp»)) && high (_⊖_ f (k .«ab_cp») (k .«ac_cp»))) Info.OnBC
+      (Info.OnFace (faceSide (dotV f n (v .ap))) va vb vc)))
+
+  -- a + ab * v on the edge i
+  unfoldable pub onEdge : ℕ → Vec3 → Vec3 → Float → TriangleProjection
+  onEdge i a ab v = record { point = addV f a (scaleV f ab v); location = OnEdge i (_⊖_ f oneF v) v }
+
+  -- the face's point by its weights, or solid
+  unfoldable pub onFace : Vec3 → Vec3 → Vec3 → Vec3 → ℕ → Float → Float → Float → TriangleProjection
+  onFace pt a ab ac side va vb vc =
+      let sum = _⊕_ f (_⊕_ f va vb) vc in
+      let denom = _⊘_ f oneF sum in
+      let v = _⊗_ f vb denom in
+      let w = _⊗_ f vc denom in
+      cond (ne sum zeroF)
+      (record { point = addV f (addV f a (scaleV f ab v)) (scaleV f ac w); location = OnFace side (_⊖_ f (_⊖_ f oneF v) w) v w })
+      (record { point = pt; location = OnSolid })
+
+  -- the projection on that edge or on the face
+  unfoldable pub located : Triangle → Vec3 → Differences → Dots → ProjectionInfo → TriangleProjection
+  located t pt v k Info.OnAB = onEdge 0 (t .a) (v .ab) (_⊘_ f (k .«ab_ap») (lengthSquaredV f (v .ab)))
+  located t pt v k Info.OnAC = onEdge 2 (t .a) (v .ac) (_⊘_ f (k .«ac_ap») (lengthSquaredV f (v .ac)))
+  located t pt v k Info.OnBC = onEdge 1 (t .b) (v .bc) (_⊘_ f (dotV f (v .bc) (v .bp)) (lengthSquaredV f (v .bc)))
+  located t pt v k (Info.OnFace side va vb vc) = onFace pt (t .a) (v .ab) (v .ac) side va vb vc
+
+  -- `project_local_point_and_get_location`
+  unfoldable pub projectTriangle : Triangle → Vec3 → TriangleProjection
+  projectTriangle t pt =
+      let v = differences t pt in
+      let k = dots v in
+      orElse (vertexRegion t k) (located t pt v k (checkEdges v k))
+
+  -- `is_affinely_dependent`
+  unfoldable pub isAffinelyDependent : Triangle → Bool
+  isAffinelyDependent t =
+      let e = _⊗_ f (epsilon f) hundredF in
+      let q = lengthSquaredV f (crossV f (subV f (t .b) (t .a)) (subV f (t .c) (t .a))) in
+      relativeEq f q zeroF (_⊗_ f e e) (epsilon f)
+
+-- ---- `barycentric_coordinates`. It refuses a corner or an edge that no triangle has, where the Rust panics.
+unfoldable pub vertexWeights : ℕ → BarycentricCoordinates
+vertexWeights i =
+    cond (eqb i 0) (Weights.Some oneF zeroF zeroF)
+    (cond (eqb i 1) (Weights.Some zeroF oneF zeroF)
+    (cond (eqb i 2) (Weights.Some zeroF zeroF oneF) Weights.Refused))
+
+unfoldable pub edgeWeights : ℕ → Float → Float → BarycentricCoordinates
+edgeWeights i u v =
+    cond (eqb i 0) (Weights.Some u v zeroF)
+    (cond (eqb i 1) (Weights.Some zeroF u v)
+    (cond (eqb i 2) (Weights.Some u zeroF v) Weights.Refused))
+
+unfoldable pub barycentricCoordinates : TrianglePointLocation → BarycentricCoordinates
+barycentricCoordinates (OnVertex i) = vertexWeights i
+barycentricCoordinates (OnEdge i u v) = edgeWeights i u v
+barycentricCoordinates (OnFace i u v w) = Weights.Some u v w
+barycentricCoordinates OnSolid = Weights.None
+
+-- the outcome's number
+unfoldable pub barycentricOutcome : BarycentricCoordinates → ℕ
+barycentricOutcome (Weights.Some u v w) = 0
+barycentricOutcome Weights.None = 0
+barycentricOutcome Weights.Refused = 2

@@ -1,0 +1,3 @@
+pub mod Simplex
+pub mod Operations
+pub mod Reduction

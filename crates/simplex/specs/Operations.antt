@@ -1,0 +1,111 @@
+-- The public operations of the simplex. Definitions only. Each tests first that the value is a simplex, and a refused one hands it back as it came in.
+-- Carries the methods of `VoronoiSimplex` of src/query/gjk/voronoi_simplex3.rs, in its order, but for the projections, which are in Reduction.antt.
+use Prim.Native.Nat.{ℕ, _+_}
+use mathlib.Core.Bool.{Bool, _&&_, cond}
+use lib.Dec.{leb, ltb}
+use lib.ListN.{getD}
+use lib.Ieee.{Float, Format, nan}
+use Rattle.vector.specs.declared.vec3.Vec3.{Vec3}
+use Rattle.vector.specs.Vector.{zeroF}
+use Rattle.shape.specs.declared.vertex.Vertex.{Vertex}
+use Rattle.shape.specs.Vertex.{zeroVertex}
+use Rattle.simplex.specs.declared.simplex.VoronoiSimplex.{VoronoiSimplex}
+use Rattle.simplex.specs.declared.operations.Outcome.{Outcome}
+use Rattle.simplex.specs.declared.operations.Outcome.the-variants.{Done, Refused}
+use Rattle.simplex.specs.declared.operations.Altered.{Altered}
+use Rattle.simplex.specs.declared.operations.Answer.{Answer}
+use Rattle.simplex.specs.declared.operations.Answer.the-variants.{Yes, No, Refused as NoAnswer}
+use Rattle.simplex.specs.declared.operations.Added.{Added}
+use Rattle.simplex.specs.declared.operations.Number.{Number}
+use Rattle.simplex.specs.declared.operations.Number.the-variants.{Is, Refused as NoNumber}
+use Rattle.simplex.specs.declared.operations.Size.{Size}
+use Rattle.simplex.specs.declared.operations.Size.the-variants.{Is as IsSize, Refused as NoSize}
+use Rattle.simplex.specs.declared.operations.Corner.{Corner}
+use Rattle.simplex.specs.declared.operations.Corner.the-variants.{At, Refused as NoCorner}
+use Rattle.simplex.specs.Simplex.{isSimplex, vertexAt, swapIn, resetIn, savedIn, grownIn, nearSimplex, hasPoint, maxSqLenOf, translatedIn}
+
+-- ---- document 01's number of each answer: 0 where it carries one, 2 for the refusal
+unfoldable pub outcomeNumber : Outcome → ℕ
+outcomeNumber Done = 0
+outcomeNumber Refused = 2
+
+unfoldable pub answerNumber : Answer → ℕ
+answerNumber Yes = 0
+answerNumber No = 0
+answerNumber NoAnswer = 2
+
+unfoldable pub numberNumber : Number → ℕ
+numberNumber (Is x) = 0
+numberNumber NoNumber = 2
+
+unfoldable pub sizeNumber : Size → ℕ
+sizeNumber (IsSize n) = 0
+sizeNumber NoSize = 2
+
+unfoldable pub cornerNumber : Corner → ℕ
+cornerNumber (At v) = 0
+cornerNumber NoCorner = 2
+
+-- ---- the operations
+
+abbrev pub doneWith : VoronoiSimplex → Altered
+doneWith s = record { simplex = s; outcome = Done }
+
+abbrev pub refusedWith : VoronoiSimplex → Altered
+refusedWith s = record { simplex = s; outcome = Refused }
+
+-- the altered simplex t, or the refusal with the one that came in
+abbrev pub alteredOr : Bool → VoronoiSimplex → VoronoiSimplex → Altered
+alteredOr ok s t = cond ok (doneWith t) (refusedWith s)
+
+-- `swap`: the Rust's arrays have four places
+unfoldable pub swapSimplex : VoronoiSimplex → ℕ → ℕ → Altered
+swapSimplex s i1 i2 = alteredOr (isSimplex s && ltb i1 4 && ltb i2 4) s (swapIn s i1 i2)
+
+-- `reset`
+unfoldable pub resetSimplex : VoronoiSimplex → Vertex → Altered
+resetSimplex s pt = alteredOr (isSimplex s) s (resetIn s pt)
+
+-- `proj_coord`: there are three weights
+unfoldable pub projCoord : VoronoiSimplex → ℕ → Number
+projCoord s i = cond (isSimplex s && leb i (s .dim) && ltb i 3) (Is (getD (s .proj) i nan)) NoNumber
+
+-- `point`
+unfoldable pub cornerPoint : VoronoiSimplex → ℕ → Corner
+cornerPoint s i = cond (isSimplex s && leb i (s .dim)) (At (vertexAt s i)) NoCorner
+
+-- `prev_proj_coord`
+unfoldable pub prevProjCoord : VoronoiSimplex → ℕ → Number
+prevProjCoord s i = cond (isSimplex s && leb i (s .«prev_dim») && ltb i 3) (Is (getD (s .«prev_proj») i nan)) NoNumber
+
+-- `prev_point`
+unfoldable pub prevPoint : VoronoiSimplex → ℕ → Corner
+prevPoint s i = cond (isSimplex s && leb i (s .«prev_dim»)) (At (vertexAt s (getD (s .«prev_vertices») i 0))) NoCorner
+
+-- `contains_point`
+unfoldable pub containsPoint : VoronoiSimplex → Vec3 → Answer
+containsPoint s pt = cond (isSimplex s) (cond (hasPoint s pt (s .dim + 1)) Yes No) NoAnswer
+
+-- `dimension`
+unfoldable pub dimensionOf : VoronoiSimplex → Size
+dimensionOf s = cond (isSimplex s) (IsSize (s .dim)) NoSize
+
+-- `prev_dimension`
+unfoldable pub prevDimensionOf : VoronoiSimplex → Size
+prevDimensionOf s = cond (isSimplex s) (IsSize (s .«prev_dim»)) NoSize
+
+module _ (f : Format) where
+  -- `add_point`: dimension 3 is `unreachable!`
+  unfoldable pub addPoint : VoronoiSimplex → Vertex → Added
+  addPoint s pt =
+      cond (isSimplex s && ltb (s .dim) 3)
+      (cond (nearSimplex f s pt) (record { simplex = savedIn s; answer = No }) (record { simplex = grownIn (savedIn s) pt; answer = Yes }))
+      (record { simplex = s; answer = NoAnswer })
+
+  -- `max_sq_len`
+  unfoldable pub maxSqLen : VoronoiSimplex → Number
+  maxSqLen s = cond (isSimplex s) (Is (maxSqLenOf f s (s .dim + 1))) NoNumber
+
+  -- `modify_pnts`
+  unfoldable pub modifyPnts : VoronoiSimplex → Vec3 → Altered
+  modifyPnts s dir = alteredOr (isSimplex s) s (translatedIn f s dir (s .dim + 1))

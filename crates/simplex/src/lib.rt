@@ -1,0 +1,18 @@
+// The simplex of voronoi_simplex3.rs, by value: every operation takes it, and hands it back where the
+// Rust alters it. A value that is no simplex, and every place where the Rust panics, gets refusal 2
+// with the simplex as it came in.
+mod location;
+mod operations;
+mod simplex;
+mod steps;
+
+pub use operations::Added;
+pub use operations::Altered;
+pub use operations::Answer;
+pub use operations::Corner;
+pub use operations::Number;
+pub use operations::Outcome;
+pub use operations::Projected;
+pub use operations::Reduced;
+pub use operations::Size;
+pub use simplex::VoronoiSimplex;

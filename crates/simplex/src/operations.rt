@@ -1,0 +1,276 @@
+// The public operations of voronoi_simplex3.rs. Each tests first that the value is a simplex; refusal 2
+// hands it back as it came in.
+ghost use mathlib.Core.Path.{_≡_};
+ghost use lib.Ieee.{binary32};
+ghost use Rattle.simplex.specs.Operations.{swapSimplex, resetSimplex, addPoint, modifyPnts};
+ghost use Rattle.simplex.specs.Operations.{projCoord, cornerPoint, prevProjCoord, prevPoint};
+ghost use Rattle.simplex.specs.Reduction.{reduceIn, projectOriginAndReduce, projectOrigin};
+ghost use Rattle.simplex.specs.Operations.{containsPoint, dimensionOf, prevDimensionOf, maxSqLen};
+use crate::location::Located;
+use crate::location::apply_location;
+use crate::location::find_location;
+use crate::simplex::VoronoiSimplex;
+use crate::steps;
+use shape::Vertex;
+use vector::Vec3;
+
+pub enum Outcome {
+    Done,
+    Refused,
+}
+
+pub struct Altered {
+    pub simplex: VoronoiSimplex,
+    pub outcome: Outcome,
+}
+
+pub enum Answer {
+    Yes,
+    No,
+    Refused,
+}
+
+pub struct Added {
+    pub simplex: VoronoiSimplex,
+    pub answer: Answer,
+}
+
+pub enum Number {
+    Is(f32),
+    Refused,
+}
+
+pub enum Size {
+    Is(usize),
+    Refused,
+}
+
+pub enum Corner {
+    At(Vertex),
+    Refused,
+}
+
+pub enum Projected {
+    At(Vec3),
+    Refused,
+}
+
+pub struct Reduced {
+    pub simplex: VoronoiSimplex,
+    pub projection: Projected,
+}
+
+impl VoronoiSimplex {
+    // Two vertices change places.
+    pub fn swap(self, i1: usize, i2: usize) -> Altered
+        ensures { λ r. ⌜ r ≡ swapSimplex self i1 i2 ⌝ }
+    {
+        if self.is_simplex() & (i1 < 4) & (i2 < 4) {
+            let simplex = steps::swap_in(self, i1, i2);
+            return Altered {
+                simplex,
+                outcome: Outcome::Done,
+            };
+        }
+        Altered {
+            simplex: self,
+            outcome: Outcome::Refused,
+        }
+    }
+
+    // The simplex becomes the one vertex.
+    pub fn reset(self, pt: Vertex) -> Altered
+        ensures { λ r. ⌜ r ≡ resetSimplex self pt ⌝ }
+    {
+        if self.is_simplex() {
+            let simplex = steps::reset_in(self, pt);
+            return Altered {
+                simplex,
+                outcome: Outcome::Done,
+            };
+        }
+        Altered {
+            simplex: self,
+            outcome: Outcome::Refused,
+        }
+    }
+
+    // Adds a vertex, and answers no where it would add nothing. Either way the previous dimension, weights
+    // and places are kept first. Dimension 3 is refused.
+    pub fn add_point(self, pt: Vertex) -> Added
+        ensures { λ r. ⌜ r ≡ addPoint binary32 self pt ⌝ }
+    {
+        if self.is_simplex() & (self.dim < 3) {
+            let saved = steps::saved_in(self);
+            if steps::near_simplex(self, pt) {
+                return Added {
+                    simplex: saved,
+                    answer: Answer::No,
+                };
+            }
+            let simplex = steps::grown_in(saved, pt);
+            return Added {
+                simplex,
+                answer: Answer::Yes,
+            };
+        }
+        Added {
+            simplex: self,
+            answer: Answer::Refused,
+        }
+    }
+
+    // Weight i of the last projection: there are three, though there may be four vertices.
+    pub fn proj_coord(self, i: usize) -> Number
+        ensures { λ r. ⌜ r ≡ projCoord self i ⌝ }
+    {
+        if self.is_simplex() & (i <= self.dim) & (i < 3) {
+            return Number::Is(self.proj[i]);
+        }
+        Number::Refused
+    }
+
+    // Vertex i.
+    pub fn point(self, i: usize) -> Corner
+        ensures { λ r. ⌜ r ≡ cornerPoint self i ⌝ }
+    {
+        if self.is_simplex() & (i <= self.dim) {
+            let v = self.vertices[i];
+            return Corner::At(v);
+        }
+        Corner::Refused
+    }
+
+    // Weight i before the last `add_point`.
+    pub fn prev_proj_coord(self, i: usize) -> Number
+        ensures { λ r. ⌜ r ≡ prevProjCoord self i ⌝ }
+    {
+        if self.is_simplex() & (i <= self.prev_dim) & (i < 3) {
+            return Number::Is(self.prev_proj[i]);
+        }
+        Number::Refused
+    }
+
+    // Vertex i before the last `add_point`, wherever a reduction has swapped it since.
+    pub fn prev_point(self, i: usize) -> Corner
+        ensures { λ r. ⌜ r ≡ prevPoint self i ⌝ }
+    {
+        if self.is_simplex() & (i <= self.prev_dim) {
+            let place = self.prev_vertices[i];
+            let v = self.vertices[place];
+            return Corner::At(v);
+        }
+        Corner::Refused
+    }
+
+    // Projects the origin on the simplex, and reduces it to the part that holds the projection.
+    pub fn project_origin_and_reduce(self) -> Reduced
+        ensures { λ r. ⌜ r ≡ projectOriginAndReduce binary32 self ⌝ }
+    {
+        if self.is_simplex() {
+            return reduce_in(self);
+        }
+        Reduced {
+            simplex: self,
+            projection: Projected::Refused,
+        }
+    }
+
+    // The projection alone: the simplex stays as it is.
+    pub fn project_origin(self) -> Projected
+        ensures { λ r. ⌜ r ≡ projectOrigin binary32 self ⌝ }
+    {
+        if self.is_simplex() {
+            return match find_location(self) {
+                Located::At(point, _) => Projected::At(point),
+                Located::Refused => Projected::Refused,
+            };
+        }
+        Projected::Refused
+    }
+
+    // Whether a vertex of the simplex has just this point.
+    pub fn contains_point(self, pt: Vec3) -> Answer
+        ensures { λ r. ⌜ r ≡ containsPoint self pt ⌝ }
+    {
+        if self.is_simplex() {
+            if steps::has_point(self, pt) {
+                return Answer::Yes;
+            }
+            return Answer::No;
+        }
+        Answer::Refused
+    }
+
+    pub fn dimension(self) -> Size
+        ensures { λ r. ⌜ r ≡ dimensionOf self ⌝ }
+    {
+        if self.is_simplex() {
+            return Size::Is(self.dim);
+        }
+        Size::Refused
+    }
+
+    pub fn prev_dimension(self) -> Size
+        ensures { λ r. ⌜ r ≡ prevDimensionOf self ⌝ }
+    {
+        if self.is_simplex() {
+            return Size::Is(self.prev_dim);
+        }
+        Size::Refused
+    }
+
+    // The greatest squared length of a vertex's point; 0 where none compares greater.
+    pub fn max_sq_len(self) -> Number
+        ensures { λ r. ⌜ r ≡ maxSqLen binary32 self ⌝ }
+    {
+        if self.is_simplex() {
+            return Number::Is(steps::max_sq_len_in(self));
+        }
+        Number::Refused
+    }
+
+    // Every vertex is translated by `dir`: the Rust applies a function, and its one caller translates.
+    pub fn modify_pnts(self, dir: Vec3) -> Altered
+        ensures { λ r. ⌜ r ≡ modifyPnts binary32 self dir ⌝ }
+    {
+        if self.is_simplex() {
+            let simplex = steps::translated_in(self, dir);
+            return Altered {
+                simplex,
+                outcome: Outcome::Done,
+            };
+        }
+        Altered {
+            simplex: self,
+            outcome: Outcome::Refused,
+        }
+    }
+}
+
+// The two halves in turn. What is refused hands the simplex back as it came in.
+fn reduce_in(s: VoronoiSimplex) -> Reduced
+    ensures { λ r. ⌜ r ≡ reduceIn binary32 s ⌝ }
+{
+    match find_location(s) {
+        Located::At(point, location) => {
+            let applied = apply_location(s, location);
+            let outcome = applied.outcome;
+            let simplex = applied.simplex;
+            match outcome {
+                Outcome::Done => Reduced {
+                    simplex,
+                    projection: Projected::At(point),
+                },
+                Outcome::Refused => Reduced {
+                    simplex,
+                    projection: Projected::Refused,
+                },
+            }
+        }
+        Located::Refused => Reduced {
+            simplex: s,
+            projection: Projected::Refused,
+        },
+    }
+}
