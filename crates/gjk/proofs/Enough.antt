@@ -3,12 +3,10 @@
 -- turn, which takes one of six perturbations or ends. So `left`, the rounds, the perturbations and one turn before a perturbation that are left, falls at each turn.
 use Prim.Native.Nat.{ℕ, zero, suc, _+_, _-_, _*_, _≤_, _<_}
 use mathlib.Core.Path.{_≡_, refl, sym, ap, _∙_}
-use mathlib.Core.Logic.{_⊎_, inl, inr}
-use mathlib.Core.Bool.{Bool, true, false, not, _&&_, _||_, cond, true≢false, false≢true}
+use mathlib.Core.Bool.{Bool, true, false, not, _&&_, _||_, cond}
 use native.Mathlib.Omega.{arith}
 use borrow.Author.Tests.{ltb-true, leb-false}
 use lib.Dec.{T, leb, ltb, eqb, eqb-refl}
-use lib.IntN.{ℤ}
 use lib.Ieee as Ieee
 use lib.Ieee.{Float, nan, inf, fin, Format, up, down, below, level, lt, le, eq}
 use lib.Ieee.Scale.{finite}
@@ -28,13 +26,11 @@ use Rattle.simplex.specs.Operations.{addPoint}
 use Rattle.simplex.specs.Reduction.{projectOriginAndReduce}
 use Rattle.gjk.specs.declared.rounds.GJKResult.{GJKResult}
 use Rattle.gjk.specs.declared.rounds.GJKResult.the-variants.{Intersection, Refused}
-use Rattle.gjk.specs.declared.rounds.Gjk.{Gjk}
 use Rattle.gjk.specs.declared.rounds.Round.{Round}
 use Rattle.gjk.specs.declared.rounds.Next.{Next}
 use Rattle.gjk.specs.declared.rounds.Next.the-variants.{Onward, Ended}
-use Rattle.gjk.specs.declared.rounds.Turn.{Turn}
 use Rattle.gjk.specs.Perturbed.{perturbedDir}
-use Rattle.gjk.specs.Gjk.{Search, onwardWith, endedWith, touching, closestBy, apartBy, stalled, roundAfter, reducedTo, advanced, addedBy, extended, bounded, bettered, probed, perturbedRound, stagnated, boundedBy, turnOf, after, runOf, startIn, startAt, startOf, firstRound, finishedBy, closestWithin, closestPoints}
+use Rattle.gjk.specs.Gjk.{Search, onwardWith, endedWith, touching, stalled, roundAfter, reducedTo, advanced, addedBy, extended, bounded, bettered, probed, perturbedRound, stagnated, boundedBy, turnOf, after, runOf, startIn, startAt, startOf, firstRound, finishedBy, closestWithin, closestPoints}
 
 -- ---- a turn that ends doesn't go on
 no-end : {A : Type 0} (x : GJKResult) (r : Round) → Ended x ≡ Onward r → A

@@ -1,10 +1,9 @@
 -- `perturbed_dir` of src/query/gjk/gjk.rs. Definitions only.
 use Prim.Native.Nat.{ℕ, _-_, _/_, _%_}
-use mathlib.Core.Bool.{true, false, cond}
-use lib.IntN.{pos}
+use mathlib.Core.Bool.{false, cond}
 use lib.Dec.{eqb}
 use lib.Ieee as Ieee
-use lib.Ieee.{Float, Format, fin, round}
+use lib.Ieee.{Float, Format, round}
 use Rattle.vector.specs.declared.vec3.Vec3.{Vec3}
 use Rattle.vector.specs.declared.vec3.Axis.{Axis}
 use Rattle.vector.specs.declared.vec3.Axis.the-variants.{X, Y, Z}

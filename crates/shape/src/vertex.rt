@@ -2,7 +2,6 @@
 // (`CsoPoint` of cso_point.rs).
 ghost use mathlib.Core.Path.{_≡_};
 ghost use lib.Ieee.{binary32};
-ghost use Rattle.vector.specs.Vector.{subV};
 ghost use Rattle.shape.specs.Vertex.{newVertex, vertexWithPoint, singlePoint, originVertex, translateVertex, subVertex};
 use vector::Vec3;
 

@@ -4,11 +4,9 @@ use Prim.Native.Nat.{ℕ, _+_}
 use mathlib.Core.Bool.{Bool, _&&_, cond}
 use lib.Dec.{leb, ltb}
 use lib.ListN.{getD}
-use lib.Ieee.{Float, Format, nan}
+use lib.Ieee.{Format, nan}
 use Rattle.vector.specs.declared.vec3.Vec3.{Vec3}
-use Rattle.vector.specs.Vector.{zeroF}
 use Rattle.shape.specs.declared.vertex.Vertex.{Vertex}
-use Rattle.shape.specs.Vertex.{zeroVertex}
 use Rattle.simplex.specs.declared.simplex.VoronoiSimplex.{VoronoiSimplex}
 use Rattle.simplex.specs.declared.operations.Outcome.{Outcome}
 use Rattle.simplex.specs.declared.operations.Outcome.the-variants.{Done, Refused}

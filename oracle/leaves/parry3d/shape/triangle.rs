@@ -69,7 +69,8 @@ impl TrianglePointLocation {
             }
             Self::OnEdge(0, [u, v]) => Some([u, v, 0.0]),
             Self::OnEdge(1, [u, v]) => Some([0.0, u, v]),
-            Self::OnEdge(_, [u, v]) => Some([u, 0.0, v]),
+            Self::OnEdge(2, [u, v]) => Some([u, 0.0, v]),
+            Self::OnEdge(..) => unreachable!(),
             Self::OnFace(_, weights) => Some(weights),
             Self::OnSolid => None,
         }

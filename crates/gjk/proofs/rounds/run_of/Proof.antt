@@ -7,7 +7,6 @@ use lib.Ieee.{binary32, ofBits}
 use Rattle.vector.specs.Vector.{xV}
 use Rattle.simplex.specs.declared.simplex.VoronoiSimplex.{VoronoiSimplex}
 use Rattle.gjk.specs.declared.rounds.GJKResult.{GJKResult}
-use Rattle.gjk.specs.declared.rounds.Gjk.{Gjk}
 use Rattle.gjk.specs.declared.rounds.Round.{Round}
 use Rattle.gjk.specs.declared.rounds.Next.the-variants.{Onward, Ended}
 use Rattle.gjk.specs.declared.rounds.Turn.{Turn}

@@ -1,5 +1,4 @@
 -- `Vec3::length` returns `lengthV`: the root of what `length_squared` returns.
-use mathlib.Core.Path.{refl}
 use Rattle.vector.specs.Vector.{lengthV}
 use Rattle.vector.proofs.vec3.Vec3.length.Statement.{statement}
 use Rattle.vector.proofs.vec3.Vec3.length.Tie as tie

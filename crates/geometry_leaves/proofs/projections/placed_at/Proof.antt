@@ -1,0 +1,12 @@
+-- `placed_at` returns `placedAt`.
+use mathlib.Core.Path.{refl}
+use Rattle.geometry_leaves.specs.Projections.{placedAt}
+use Rattle.geometry_leaves.proofs.projections.placed_at.Statement.{statement}
+use Rattle.geometry_leaves.proofs.projections.placed_at.Tie as tie
+
+returns : tie.Need-returns
+unfolding placedAt
+returns c = refl
+
+pub placed-at-spec : {M : Type 1} → statement M
+placed-at-spec = tie.close (tie.spec returns)

@@ -1,0 +1,4 @@
+pub mod Shapes
+pub mod Projections
+pub mod Simplices
+pub mod Searches

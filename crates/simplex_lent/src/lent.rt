@@ -1,0 +1,38 @@
+// Each function copies the lent simplex out, calls the operation by value, and stores what comes back.
+// What is refused leaves it as it came in, for the operation by value hands it back so.
+ghost use mathlib.Core.Path.{_≡_};
+ghost use lib.Ieee.{binary32};
+ghost use Rattle.simplex.specs.Operations.{resetSimplex, addPoint};
+ghost use Rattle.simplex.specs.Reduction.{projectOriginAndReduce};
+use shape::Vertex;
+use simplex::Answer;
+use simplex::Outcome;
+use simplex::Projected;
+use simplex::VoronoiSimplex;
+
+// The simplex becomes the one vertex.
+pub fn reset(s: &mut VoronoiSimplex, pt: Vertex) -> Outcome
+    ensures { λ r. ⌜ (now (s .exit) ≡ resetSimplex (now (s .entry)) pt .simplex) × (r ≡ resetSimplex (now (s .entry)) pt .outcome) ⌝ }
+{
+    let r = VoronoiSimplex::reset(*s, pt);
+    *s = r.simplex;
+    r.outcome
+}
+
+// Adds a vertex, and answers no where it would add nothing.
+pub fn add_point(s: &mut VoronoiSimplex, pt: Vertex) -> Answer
+    ensures { λ r. ⌜ (now (s .exit) ≡ addPoint binary32 (now (s .entry)) pt .simplex) × (r ≡ addPoint binary32 (now (s .entry)) pt .answer) ⌝ }
+{
+    let r = VoronoiSimplex::add_point(*s, pt);
+    *s = r.simplex;
+    r.answer
+}
+
+// Projects the origin on the simplex, and reduces it to the part that holds the projection.
+pub fn project_origin_and_reduce(s: &mut VoronoiSimplex) -> Projected
+    ensures { λ r. ⌜ (now (s .exit) ≡ projectOriginAndReduce binary32 (now (s .entry)) .simplex) × (r ≡ projectOriginAndReduce binary32 (now (s .entry)) .projection) ⌝ }
+{
+    let r = VoronoiSimplex::project_origin_and_reduce(*s);
+    *s = r.simplex;
+    r.projection
+}

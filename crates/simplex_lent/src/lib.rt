@@ -1,0 +1,7 @@
+// The simplex of voronoi_simplex3.rs, lent: `reset`, `add_point` and `project_origin_and_reduce` over
+// `&mut`, as the Rust has them. The caller finds the one simplex altered in place.
+mod lent;
+
+pub use lent::add_point;
+pub use lent::project_origin_and_reduce;
+pub use lent::reset;
