@@ -2,6 +2,7 @@
 -- A turn ends the run with a result, or goes on with what the loop carries. Fuel for 107 turns is never spent: proofs/Enough.antt.
 use Prim.Native.Nat.{ℕ, zero, suc, _+_}
 use mathlib.Core.Bool.{Bool, true, false, not, _&&_, cond}
+use mathlib.Core.List.{List, [], _∷_}
 use lib.Dec.{leb, ltb, eqb}
 use lib.Ieee as Ieee
 use lib.Ieee.{Float, Format, binary32, lt, le}
@@ -35,7 +36,7 @@ use Rattle.gjk.specs.declared.rounds.Turn.{Turn}
 use Rattle.gjk.specs.Witnesses.{resultOf}
 use Rattle.gjk.specs.Perturbed.{perturbedDir}
 
--- ---- document 01's number and values of each result: D, M and S carry their vectors, an intersection none, and refusal 2 zeros
+-- ---- document 01's number of each result, 0 or refusal 2, and its values: letter D has three vectors, M and S one, an intersection none, and a refusal zeros
 unfoldable pub gjkNumber : GJKResult → ℕ
 gjkNumber Intersection = 0
 gjkNumber (ClosestPoints p1 p2 d) = 0
@@ -43,12 +44,12 @@ gjkNumber (Proximity d) = 0
 gjkNumber (NoIntersection d) = 0
 gjkNumber Refused = 2
 
-unfoldable pub gjkDirection : GJKResult → Vec3
-gjkDirection Intersection = zeroV
-gjkDirection (ClosestPoints p1 p2 d) = d
-gjkDirection (Proximity d) = d
-gjkDirection (NoIntersection d) = d
-gjkDirection Refused = zeroV
+unfoldable pub gjkValues : GJKResult → List Vec3
+gjkValues Intersection = []
+gjkValues (ClosestPoints p1 p2 d) = p1 ∷ p2 ∷ d ∷ []
+gjkValues (Proximity d) = d ∷ []
+gjkValues (NoIntersection d) = d ∷ []
+gjkValues Refused = zeroV ∷ zeroV ∷ zeroV ∷ []
 
 -- ---- what a run is asked: the support points of the two shapes, the largest distance, the exact flag; and `_eps_rel`
 pub record Search : Type 0 where

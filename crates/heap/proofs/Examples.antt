@@ -1,26 +1,11 @@
 -- Document 01's known cases of the heap, computed: in which order faces go out. Assumes nothing.
 use mathlib.Core.Path.{_≡_, refl}
 use mathlib.Core.Bool.{true, false}
-use mathlib.Core.List.{List, [], _∷_}
-use Prim.Native.Nat.{ℕ, zero, suc}
+use mathlib.Core.List.{[], _∷_}
 use lib.IntN.{pos, negsuc}
-use lib.ListN.{length, replicate}
 use lib.Ieee.{Float, nan, fin, lt}
-use Rattle.heap.specs.Heap.{Heap, heap, entry, noEntry, entryAt, swap, riseIn, rise, greater, sinkIn, sink, pushed, settled, popped}
-
--- the keys are pushed in their order, the first as the face n, the next as n + 1, and so on
-pub pushAll : List Float → ℕ → Heap → Heap
-pushAll [] n h = h
-pushAll (k ∷ ks) n h = pushAll ks (suc n) (pushed h (entry n k))
-
--- the faces that n pops take out, in order
-pub popAll : ℕ → Heap → List ℕ
-popAll zero h = []
-popAll (suc n) h = entryAt h 0 .face ∷ popAll n (popped h n)
-
--- keys pushed as faces 0, 1, .., into a store of just their number: the order in which the faces go out
-pub orderOf : List Float → List ℕ
-orderOf ks = popAll (length ks) (pushAll ks 0 (heap (replicate (length ks) 0) (replicate (length ks) (noEntry .key)) 0))
+use Rattle.heap.specs.Heap.{swap, riseIn, rise, greater, sinkIn, sink, pushed, settled, popped}
+use Rattle.heap.specs.Order.{pushAll, popAll, orderOf}
 
 abbrev minusOne : Float
 minusOne = fin true 1 (pos 0)

@@ -129,10 +129,10 @@ fn to_vertex(s: VoronoiSimplex, i: usize) -> VoronoiSimplex
 fn to_edge(s: VoronoiSimplex, u: f32, v: f32, dim: usize) -> VoronoiSimplex
     ensures { λ r. ⌜ r ≡ toEdge s u v dim ⌝ }
 {
-    let mut proj = s.proj;
-    proj[0] = u;
-    proj[1] = v;
-    steps::place_in(s, proj, dim)
+    let mut weights = s.proj;
+    weights[0] = u;
+    weights[1] = v;
+    steps::place_in(s, weights, dim)
 }
 
 fn done(simplex: VoronoiSimplex) -> Altered

@@ -1,0 +1,49 @@
+// What the calls of this crate answer.
+use polytope::Best;
+use polytope::End;
+use polytope::Run;
+use shape::Vertex;
+
+// A face and its key, the negated distance (`FaceId` of epa3.rs).
+pub struct FaceId {
+    pub id: usize,
+    pub neg_dist: f32,
+}
+
+// The Rust's `Option<FaceId>`, of a key that may be refused and of a heap that may be empty.
+pub enum MaybeFaceId {
+    Some(FaceId),
+    None,
+}
+
+// The Rust's `Option<CsoPoint>`.
+pub enum MaybeVertex {
+    Some(Vertex),
+    None,
+}
+
+// An entry that was popped, or none, and how many are left.
+pub struct Popped {
+    pub entry: MaybeFaceId,
+    pub heap: usize,
+}
+
+// After an expansion: what is carried to the next, or the run's end.
+pub enum Turned {
+    Next(Best, Run),
+    Ended(End, Run),
+}
+
+// The counts of a whole run: expansions completed, faces made, faces live at the end, and the most edges
+// recorded in one pass.
+pub struct Counts {
+    pub expansions: usize,
+    pub faces_made: usize,
+    pub faces_live: usize,
+    pub most_edges: usize,
+}
+
+pub struct Answer {
+    pub end: End,
+    pub counts: Counts,
+}

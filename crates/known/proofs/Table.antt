@@ -1,0 +1,16 @@
+-- Every row of the table of known cases holds, by computation. Assumes nothing.
+use mathlib.Core.Path.{refl}
+use lib.Ieee.{ofBits, toBits, neg, add, sub, mul, lt, le, round}
+use Rattle.number.specs.Root.{root}
+use Rattle.vector.specs.Vector.{zeroV, subV, dotV}
+use Rattle.shape.specs.Vertex.{singlePoint, vertexWithPoint}
+use Rattle.projection.specs.Tetrahedron.{differences, dots, onVertex, vertexRegion, _orElse_, orSolid, projectTetrahedron}
+use Rattle.simplex.specs.Simplex.{overwriteIn, placeIn}
+use Rattle.simplex.specs.Reduction.{tetrahedronFace, applyTetrahedron}
+use Rattle.heap.specs.Heap.{pushed, popped, settled, rise, riseIn, sink, sinkIn, greater, swap}
+use Rattle.heap.specs.Order.{orderOf, pushAll, popAll}
+use Rattle.known.specs.Known.{All, table}
+
+pub known : All table
+unfolding root ofBits toBits neg add sub mul lt le round zeroV subV dotV singlePoint vertexWithPoint differences dots onVertex vertexRegion _orElse_ orSolid projectTetrahedron overwriteIn placeIn tetrahedronFace applyTetrahedron pushed popped settled rise riseIn sink sinkIn greater swap orderOf pushAll popAll
+known = (refl, (refl, (refl, (refl, (refl, (refl, (refl, (refl, ((refl, refl), tt)))))))))

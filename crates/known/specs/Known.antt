@@ -1,0 +1,79 @@
+-- The starred known cases of document 01, as one table of statements about the definitions. Definitions only.
+use mathlib.Core.Path.{_≡_}
+use mathlib.Core.Bool.{false}
+use mathlib.Core.List.{List, [], _∷_}
+use Prim.Native.Nat.{ℕ}
+use lib.IntN.{pos, negsuc}
+use lib.ListN.{take, replicate}
+use lib.Ieee.{Float, fin, binary32, ofBits, toBits}
+use Rattle.number.specs.Root.{root}
+use Rattle.vector.specs.declared.vec3.Vec3.{Vec3}
+use Rattle.vector.specs.Vector.{vec3, zeroF, oneF, twoF, zeroV}
+use Rattle.shape.specs.declared.vertex.Vertex.{Vertex}
+use Rattle.shape.specs.Vertex.{singlePoint}
+use Rattle.projection.specs.declared.tetrahedron.Tetrahedron.{Tetrahedron}
+use Rattle.projection.specs.declared.tetrahedron.TetrahedronProjection.{TetrahedronProjection}
+use Rattle.projection.specs.declared.tetrahedron.TetrahedronProjection.the-variants.{At}
+use Rattle.projection.specs.declared.tetrahedron.TetrahedronPointLocation.the-variants.{OnVertex, OnFace}
+use Rattle.projection.specs.Tetrahedron.{projectTetrahedron}
+use Rattle.simplex.specs.declared.simplex.VoronoiSimplex.{VoronoiSimplex}
+use Rattle.simplex.specs.Simplex.{simplexOf}
+use Rattle.simplex.specs.Reduction.{applyTetrahedron}
+use Rattle.heap.specs.Order.{orderOf}
+
+-- a row of the table
+pub data Case : Type 0 where
+  rootOf : ℕ → ℕ → Case  -- the bits of a number, and of its root
+  equalKeys : ℕ → List ℕ → Case  -- so many equal keys, pushed as faces 0, 1, .., and the order in which they pop
+  projects : Tetrahedron → TetrahedronProjection → Case  -- the origin on a tetrahedron
+  faceAcd : List Float → List Float → Case  -- the weights of face acd, and those that the reduction leaves with a, d, c
+
+-- a tetrahedron's simplex: four vertices that differ
+abbrev pub cornerAt : ℕ → Vertex
+cornerAt n = singlePoint (vec3 (ofBits binary32 n) zeroF zeroF)
+
+abbrev pub fourCorners : VoronoiSimplex
+fourCorners = let old = zeroF ∷ zeroF ∷ zeroF ∷ [] in simplexOf (0 ∷ 1 ∷ 2 ∷ 3 ∷ []) old 2 (cornerAt 0 ∷ cornerAt 1 ∷ cornerAt 2 ∷ cornerAt 3 ∷ []) old 3
+
+-- the reduction to face acd with the given weights
+abbrev pub reducedTo : List Float → VoronoiSimplex
+reducedTo (u ∷ v ∷ w ∷ []) = applyTetrahedron fourCorners (OnFace 2 u v w) .simplex
+reducedTo [] = fourCorners
+reducedTo (u ∷ []) = fourCorners
+reducedTo (u ∷ v ∷ []) = fourCorners
+reducedTo (u ∷ v ∷ w ∷ x ∷ l) = fourCorners
+
+-- what a row says
+abbrev pub Holds : Case → Type 0
+Holds (rootOf b r) = toBits binary32 (root binary32 (ofBits binary32 b)) ≡ r
+Holds (equalKeys n order) = orderOf (replicate n oneF) ≡ order
+Holds (projects t p) = projectTetrahedron binary32 t zeroV ≡ p
+Holds (faceAcd given left) =
+    (take 3 (reducedTo given .vertices) ≡ cornerAt 0 ∷ cornerAt 3 ∷ cornerAt 2 ∷ []) × (reducedTo given .proj ≡ left)
+
+abbrev pub All : List Case → Type 0
+All [] = Unit {0}
+All (c ∷ cs) = Holds c × All cs
+
+-- the literals 0.5, 0.375 and 0.125
+abbrev half : Float
+half = fin false 1 (negsuc 0)
+
+abbrev threeEighths : Float
+threeEighths = fin false 3 (negsuc 2)
+
+abbrev eighth : Float
+eighth = fin false 1 (negsuc 2)
+
+abbrev pub table : List Case
+table =
+    rootOf 0x00000002 0x1A800000
+    ∷ rootOf 0x40000000 0x3FB504F3
+    ∷ rootOf 0x7F7FFFFF 0x5F7FFFFF
+    ∷ rootOf 0x80000000 0x80000000
+    ∷ rootOf 0xBF800000 0x7FC00000
+    ∷ equalKeys 4 (0 ∷ 2 ∷ 1 ∷ 3 ∷ [])
+    ∷ equalKeys 3 (0 ∷ 1 ∷ 2 ∷ [])
+    ∷ projects (record { a = vec3 oneF oneF oneF; b = vec3 twoF oneF oneF; c = vec3 oneF twoF oneF; d = vec3 oneF oneF twoF }) (At (vec3 oneF oneF oneF) (OnVertex 0))
+    ∷ faceAcd (half ∷ threeEighths ∷ eighth ∷ []) (half ∷ eighth ∷ threeEighths ∷ [])
+    ∷ []

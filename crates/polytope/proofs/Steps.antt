@@ -1,0 +1,122 @@
+-- What a step of the run leaves: P of the value and the stores if it goes on, E of the end and the stores if the run ends. Assumes nothing.
+use mathlib.Core.Path.{_≡_, refl, sym, ap, subst, _∙_}
+use mathlib.Core.Bool.{Bool, true, false}
+use mathlib.Core.List.{List}
+use Prim.Native.Nat.{ℕ, zero, suc, _+_, _<_, _≤_}
+use lib.Dec.{leb}
+use lib.Ieee.{Float, lt}
+use borrow.Author.Tests.{leb-true, leb-false}
+use Rattle.shape.specs.declared.vertex.Vertex.{Vertex}
+use Rattle.polytope.specs.declared.types.Made.{Made}
+use Rattle.heap.specs.Heap.{Heap, Entry, pushed}
+use Rattle.polytope.specs.Polytope.{State, Rooms, Verts, End, nothing, noRoom, theVerts, theFaces, theHeap, Lost, Out, onward, ended, Act, next, _>>=_, _>>_, Nil, pure, stop, look, put, ok, stopIf, doIf, branch, withVerts, withFaces, withQueue, putVertex, oneMore, pushVertex, pushFace, queueFace, link, linkedTo}
+
+abbrev Holds : {A : Type 0} → (A → State → Type 0) → (End → State → Type 0) → Out A → Type 0
+Holds P E (onward a s) = P a s
+Holds P E (ended e s) = E e s
+
+-- a record, so that antt reads P, E and the step off a goal
+pub record Meets {A : Type 0} (P : A → State → Type 0) (E : End → State → Type 0) (o : Out A) : Type 0 where
+  pub held : Holds P E o
+
+pub goes : {A : Type 0} {P : A → State → Type 0} {E : End → State → Type 0} {a : A} {s : State} → P a s → Meets P E (onward a s)
+goes h = record { held = h }
+
+pub ends : {A : Type 0} {P : A → State → Type 0} {E : End → State → Type 0} {e : End} {s : State} → E e s → Meets P E (ended e s)
+ends h = record { held = h }
+
+module _ (E : End → State → Type 0) where
+  meets-next : {A B : Type 0} (P : A → State → Type 0) (Q : B → State → Type 0) (o : Out A) (k : A → Act B)
+      → Meets P E o → ((a : A) (s : State) → P a s → Meets Q E (k a s)) → Meets Q E (next o k)
+  meets-next P Q (onward a s) k h n = n a s (h .held)
+  meets-next P Q (ended e s) k h n = record { held = h .held }
+
+  pub meets-bind : {A B : Type 0} (P : A → State → Type 0) (Q : B → State → Type 0) (m : Act A) (k : A → Act B) (s : State)
+      → Meets P E (m s) → ((a : A) (t : State) → P a t → Meets Q E (k a t)) → Meets Q E (_>>=_ m k s)
+  unfolding _>>=_
+  meets-bind P Q m k s h n = meets-next P Q (m s) k h n
+
+  pub meets-then : {A B : Type 0} (P : A → State → Type 0) (Q : B → State → Type 0) (m : Act A) (k : Act B) (s : State)
+      → Meets P E (m s) → ((a : A) (t : State) → P a t → Meets Q E (k t)) → Meets Q E (_>>_ m k s)
+  unfolding _>>_
+  meets-then P Q m k s h n = meets-next P Q (m s) (λ _. k) h n
+
+  pub meets-look : {B : Type 0} (Q : B → State → Type 0) (k : State → Act B) (s : State) → Meets Q E (k s s) → Meets Q E (_>>=_ look k s)
+  unfolding _>>=_ look
+  meets-look Q k s h = h
+
+  pub meets-pure : {A : Type 0} (Q : A → State → Type 0) (a : A) (s : State) → Q a s → Meets Q E (pure a s)
+  unfolding pure
+  meets-pure Q a s h = goes h
+
+  pub meets-stop : {A : Type 0} (Q : A → State → Type 0) (e : End) (s : State) → E e s → Meets Q E (stop e s)
+  unfolding stop
+  meets-stop Q e s h = ends h
+
+  module _ (Q : Nil → State → Type 0) where
+    pub meets-put : (t s : State) → Q tt t → Meets Q E (put t s)
+    unfolding put
+    meets-put t s h = goes h
+
+    pub meets-ok : (s : State) → Q tt s → Meets Q E (ok s)
+    unfolding ok
+    meets-ok s h = goes h
+
+    pub meets-stopIf : (b : Bool) (e : End) (s : State) → (b ≡ true → E e s) → (b ≡ false → Q tt s) → Meets Q E (stopIf b e s)
+    unfolding stopIf
+    meets-stopIf true e s h k = ends (h refl)
+    meets-stopIf false e s h k = goes (k refl)
+
+    pub meets-doIf : (b : Bool) (a : Act Nil) (s : State) → (b ≡ true → Meets Q E (a s)) → (b ≡ false → Q tt s) → Meets Q E (doIf b a s)
+    unfolding doIf
+    meets-doIf true a s h k = record { held = h refl .held }
+    meets-doIf false a s h k = goes (k refl)
+
+    pub meets-link : (i c j : ℕ) (s : State) → Q tt (linkedTo s i c j) → Meets Q E (link i c j s)
+    unfolding link
+    meets-link i c j s h = meets-look Q _ s (meets-put _ s h)
+
+  pub meets-face : (Q : Nil → State → Type 0) (r : Rooms) (ps ns : List ℕ) (m : Made) (s : State)
+      → (r .faces ≤ s .faces .count → E (noRoom theFaces) s) → Q tt (withFaces s (oneMore (s .faces) ps ns m)) → Meets Q E (pushFace r ps ns m s)
+  unfolding pushFace
+  meets-face Q r ps ns m s h k =
+      meets-look Q _ s
+      (meets-then (λ _ t. s ≡ t) Q _ _ s
+      (meets-stopIf (λ _ t. s ≡ t) _ _ s (λ e. h (leb-true _ _ e)) (λ _. refl))
+      (λ _ t e. meets-put Q _ t k))
+
+  pub meets-queue : (Q : Nil → State → Type 0) (r : Rooms) (why : Lost) (tol : Float) (i : ℕ) (key : Float) (s : State)
+      → E (nothing why) s → (r .heap ≤ s .queue .count → E (noRoom theHeap) s) → Q tt (withQueue s (pushed (s .queue) (record { face = i; key = key })))
+      → Meets Q E (queueFace r why tol i key s)
+  unfolding queueFace
+  meets-queue Q r why tol i key s g h k =
+      meets-look Q _ s
+      (meets-then (λ _ t. s ≡ t) Q _ _ s
+      (meets-stopIf (λ _ t. s ≡ t) _ _ s (λ _. g) (λ _. refl))
+      (λ _ t e. meets-then (λ _ t. s ≡ t) Q _ _ t
+      (meets-stopIf (λ _ t. s ≡ t) _ _ t (λ o. subst (λ (x : State). E (noRoom theHeap) x) e (h (leb-true _ _ o))) (λ _. e))
+      (λ _ t' e'. meets-put Q _ t' k)))
+
+  pub meets-branch : {A : Type 0} (Q : A → State → Type 0) (b : Bool) (x y : Act A) (s : State)
+      → (b ≡ true → Meets Q E (x s)) → (b ≡ false → Meets Q E (y s)) → Meets Q E (branch b x y s)
+  unfolding branch
+  meets-branch Q true x y s h k = record { held = h refl .held }
+  meets-branch Q false x y s h k = record { held = k refl .held }
+
+  pub meets-vertex : (Q : Nil → State → Type 0) (r : Rooms) (v : Vertex) (s : State)
+      → (r .vertices ≤ s .verts .count → E (noRoom theVerts) s)
+      → Q tt (withVerts s (record { cells = putVertex (s .verts .cells) (s .verts .count) v; count = s .verts .count + 1 }))
+      → Meets Q E (pushVertex r v s)
+  unfolding pushVertex
+  meets-vertex Q r v s h k =
+      meets-look Q _ s
+      (meets-then (λ _ t. s ≡ t) Q _ _ s
+      (meets-stopIf (λ _ t. s ≡ t) _ _ s (λ e. h (leb-true _ _ e)) (λ _. refl))
+      (λ _ t e. meets-put Q _ t k))
+
+  pub meets-map : {A : Type 0} {P Q : A → State → Type 0} {o : Out A} → ((a : A) (s : State) → P a s → Q a s) → Meets P E o → Meets Q E o
+  meets-map {A} {P = P} {Q = Q} {o = o} g h = by o h
+    where
+      by : (o : Out A) → Meets P E o → Meets Q E o
+      by (onward a s) h = goes (g a s (h .held))
+      by (ended e s) h = ends (h .held)
