@@ -11,7 +11,7 @@ use parry3d::query::gjk::{CsoPoint, VoronoiSimplex};
 const STEPS: usize = 4;
 
 /// Document 01: a value with a dimension or a previous place above 3 is no simplex.
-fn is_simplex(s: &Simplex) -> bool {
+pub fn is_simplex(s: &Simplex) -> bool {
     s.dim <= 3 && s.prev_dim <= 3 && s.prev_vertices.iter().all(|&place| place <= 3)
 }
 

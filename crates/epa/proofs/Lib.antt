@@ -1,4 +1,8 @@
--- What the functions' proofs cite: a step of the run, told of the lists and the answer that the code leaves.
-pub mod Pushes
+-- What the functions' proofs cite: the run's counts, and each step told of the lists and the answer that the code leaves.
+pub mod Counts
+pub mod Starts
 pub mod Expanding
-pub mod Growing
+pub mod Popping
+pub mod Advancing
+pub mod Turning
+pub mod Running

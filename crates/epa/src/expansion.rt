@@ -1,270 +1,20 @@
-// One expansion: the new vertex, the silhouette, and the new faces (the body of the loop of `EPA::closest_points`).
+// One expansion: the faces that the new vertex sees go, and new ones join it to the silhouette (the body of the loop of
+// `EPA::closest_points`, from the deletion of the face on).
 ghost use mathlib.Core.Path.{_≡_};
-ghost use Prim.Native.Nat.{_≤_, min, max};
-ghost use lib.ListN.{length};
-ghost use lib.Ieee.{binary32};
-ghost use Rattle.polytope.specs.Face.{faceNew};
-ghost use Rattle.polytope.specs.Polytope.{vertexAt};
-ghost use Rattle.epa.specs.Contracts.{QueuesNew, GrowsAt, Grows, GrowsAll, Silhouettes, Completes, passedRun};
-use crate::steps::put_face;
-use crate::steps::queue_face;
+ghost use Prim.Native.Nat.{_≤_};
+ghost use Rattle.epa.specs.Contracts.{Completes, Closes, Regrows, Expands};
+use growth::grow_all;
+use growth::silhouette;
 use polytope::End;
-use polytope::Found;
 use polytope::Lost;
-use polytope::Made;
 use polytope::Rooms;
 use polytope::Run;
 use polytope::Step;
-use polytope::Store;
-use polytope::Three;
 use polytope::Turn;
-use polytope::WalkAnswer;
-use silhouette::answer_of;
-use silhouette::at;
 use silhouette::before;
 use silhouette::clear;
-use silhouette::dead_at;
-use silhouette::face_new;
-use silhouette::facing_at;
-use silhouette::normal_of;
-use silhouette::pass;
+use silhouette::set_dead;
 use silhouette::set_three_at;
-use silhouette::three_at;
-use silhouette::vertex_at;
-
-// `Face::new` of three vertices.
-pub fn made_of(vertices: &[f32], a: usize, b: usize, c: usize) -> Made
-    ensures { λ r. ⌜ r ≡ faceNew binary32 (vertexAt (now (vertices .entry)) a .point) (vertexAt (now (vertices .entry)) b .point) (vertexAt (now (vertices .entry)) c .point) ⌝ }
-{
-    let p0 = vertex_at(vertices, a).point;
-    let p1 = vertex_at(vertices, b).point;
-    let p2 = vertex_at(vertices, c).point;
-    face_new(p0, p1, p2)
-}
-
-// A new face that holds the projection is queued, unless it lies nearer than the one that is expanded.
-fn queue_new(
-    vertices: &[f32],
-    pts: &[usize],
-    nums: &[f32],
-    heap_face: &mut [usize],
-    heap_key: &mut [f32],
-    rooms: Rooms,
-    run: Run,
-    turn: Turn,
-    id: usize,
-) -> Step
-    requires { ⌜ rooms .heap ≡ min (length (now «heap_face»)) (length (now «heap_key»)) ⌝ }
-    ensures { λ r. ⌜ QueuesNew rooms run turn id (now (vertices .entry)) (now (pts .entry)) (now (nums .entry)) (now («heap_face» .entry)) (now («heap_key» .entry)) (now («heap_face» .exit)) (now («heap_key» .exit)) r ⌝ }
-{
-    let pt = vertex_at(vertices, three_at(pts, id, 0)).point;
-    let dist = normal_of(nums, id).dot(pt);
-    if dist < turn.dist {
-        let end = answer_of(Found::NewFaceNearer, vertices, pts, nums, turn.face);
-        return Step::Ended(end, run);
-    }
-    queue_face(
-        heap_face,
-        heap_key,
-        rooms,
-        run,
-        Lost::KeyLater,
-        turn.tol,
-        id,
-        -dist,
-    )
-}
-
-// The face between the new vertex and the edge of `face` opposite its corner `opp_pt_id`.
-fn grow_at(
-    vertices: &[f32],
-    pts: &mut [usize],
-    adj: &mut [usize],
-    nums: &mut [f32],
-    dead: &mut [u8],
-    heap_face: &mut [usize],
-    heap_key: &mut [f32],
-    rooms: Rooms,
-    run: Run,
-    turn: Turn,
-    face: usize,
-    opp_pt_id: usize,
-) -> Step
-    requires { ⌜ rooms .heap ≡ min (length (now «heap_face»)) (length (now «heap_key»)) ⌝ }
-    ensures { λ r. ⌜ GrowsAt rooms run turn face «opp_pt_id» (now (vertices .entry)) (now (pts .entry)) (now (adj .entry)) (now (nums .entry)) (now (dead .entry)) (now («heap_face» .entry)) (now («heap_key» .entry)) (now (pts .exit)) (now (adj .exit)) (now (nums .exit)) (now (dead .exit)) (now («heap_face» .exit)) (now («heap_key» .exit)) r ⌝ }
-{
-    let new_face_id = run.faces;
-    let side = (opp_pt_id % 3 + 1) % 3;
-    let a = three_at(pts, face, (opp_pt_id % 3 + 2) % 3);
-    let b = three_at(pts, face, side);
-    let point = turn.point;
-    let made = made_of(vertices, a, b, point);
-    set_three_at(adj, face, side, new_face_id);
-    if rooms.faces <= new_face_id {
-        return Step::Ended(End::NoRoom(Store::Faces), run);
-    }
-    let corners = Three { a, b, c: point };
-    let neighbours = Three {
-        a: face,
-        b: new_face_id + 1,
-        c: before(new_face_id),
-    };
-    put_face(pts, adj, nums, dead, new_face_id, corners, neighbours, made);
-    let mut next = run;
-    next.faces = new_face_id + 1;
-    if made.holds {
-        return queue_new(
-            vertices,
-            pts,
-            nums,
-            heap_face,
-            heap_key,
-            rooms,
-            next,
-            turn,
-            new_face_id,
-        );
-    }
-    Step::Onward(next)
-}
-
-// The new face of the edge i, if the edge's face is live.
-fn grow(
-    vertices: &[f32],
-    pts: &mut [usize],
-    adj: &mut [usize],
-    nums: &mut [f32],
-    dead: &mut [u8],
-    edge_face: &[usize],
-    edge_corner: &[usize],
-    heap_face: &mut [usize],
-    heap_key: &mut [f32],
-    rooms: Rooms,
-    run: Run,
-    turn: Turn,
-    i: usize,
-) -> Step
-    requires { ⌜ rooms .heap ≡ min (length (now «heap_face»)) (length (now «heap_key»)) ⌝ }
-    ensures { λ r. ⌜ Grows rooms run turn i (now (vertices .entry)) (now («edge_face» .entry)) (now («edge_corner» .entry)) (now (pts .entry)) (now (adj .entry)) (now (nums .entry)) (now (dead .entry)) (now («heap_face» .entry)) (now («heap_key» .entry)) (now (pts .exit)) (now (adj .exit)) (now (nums .exit)) (now (dead .exit)) (now («heap_face» .exit)) (now («heap_key» .exit)) r ⌝ }
-{
-    let face = at(edge_face, i);
-    if dead_at(dead, face) == 0 {
-        let corner = at(edge_corner, i);
-        return grow_at(
-            vertices,
-            pts,
-            adj,
-            nums,
-            dead,
-            heap_face,
-            heap_key,
-            rooms,
-            run,
-            turn,
-            face,
-            corner,
-        );
-    }
-    Step::Onward(run)
-}
-
-// The new faces of all edges.
-fn grow_all(
-    vertices: &[f32],
-    pts: &mut [usize],
-    adj: &mut [usize],
-    nums: &mut [f32],
-    dead: &mut [u8],
-    edge_face: &[usize],
-    edge_corner: &[usize],
-    heap_face: &mut [usize],
-    heap_key: &mut [f32],
-    rooms: Rooms,
-    start: Run,
-    turn: Turn,
-    edges: usize,
-) -> Step
-    requires { ⌜ rooms .heap ≡ min (length (now «heap_face»)) (length (now «heap_key»)) ⌝ }
-    ensures { λ r. ⌜ GrowsAll rooms start turn edges 0 (now (vertices .entry)) (now («edge_face» .entry)) (now («edge_corner» .entry)) (now (pts .entry)) (now (adj .entry)) (now (nums .entry)) (now (dead .entry)) (now («heap_face» .entry)) (now («heap_key» .entry)) (now (pts .exit)) (now (adj .exit)) (now (nums .exit)) (now (dead .exit)) (now («heap_face» .exit)) (now («heap_key» .exit)) r ⌝ }
-{
-    let mut run = start;
-    let mut i = 0;
-    while i < edges {
-        let grown = grow(
-            vertices,
-            pts,
-            adj,
-            nums,
-            dead,
-            edge_face,
-            edge_corner,
-            heap_face,
-            heap_key,
-            rooms,
-            run,
-            turn,
-            i,
-        );
-        match grown {
-            Step::Onward(next) => run = next,
-            Step::Ended(_, _) => return grown,
-        }
-        i += 1;
-    }
-    Step::Onward(run)
-}
-
-// The counts after a pass of n edges.
-fn passed(run: Run, n: usize) -> Run
-    ensures { λ r. ⌜ r ≡ passedRun run n ⌝ }
-{
-    let mut next = run;
-    next.edges = n;
-    if run.most < n {
-        next.most = n;
-    }
-    next
-}
-
-// The silhouette of the face `id`, which is deleted already: its three neighbours are asked, in order.
-fn silhouette(
-    vertices: &[f32],
-    pts: &[usize],
-    adj: &[usize],
-    nums: &[f32],
-    dead: &mut [u8],
-    edge_face: &mut [usize],
-    edge_corner: &mut [usize],
-    rooms: Rooms,
-    run: Run,
-    point: usize,
-    id: usize,
-) -> Step
-    ensures { λ r. ⌜ Silhouettes rooms run point id (now (vertices .entry)) (now (pts .entry)) (now (adj .entry)) (now (nums .entry)) (now (dead .entry)) (now («edge_face» .entry)) (now («edge_corner» .entry)) (now (dead .exit)) (now («edge_face» .exit)) (now («edge_corner» .exit)) r ⌝ }
-{
-    let a = facing_at(pts, adj, id, 0);
-    let b = facing_at(pts, adj, id, 1);
-    let c = facing_at(pts, adj, id, 2);
-    let room = rooms.edges;
-    let answer = pass(
-        vertices,
-        pts,
-        adj,
-        nums,
-        dead,
-        edge_face,
-        edge_corner,
-        room,
-        point,
-        a,
-        b,
-        c,
-    );
-    match answer {
-        WalkAnswer::Done(n) => Step::Onward(passed(run, n)),
-        WalkAnswer::NoRoom => Step::Ended(End::NoRoom(Store::Edges), passed(run, room)),
-    }
-}
 
 // The edges are cleared, and the expansion is complete.
 fn complete(edge_face: &mut [usize], edge_corner: &mut [usize], run: Run) -> Step
@@ -277,4 +27,120 @@ fn complete(edge_face: &mut [usize], edge_corner: &mut [usize], run: Run) -> Ste
     next.edges = 0;
     next.done = run.done + 1;
     Step::Onward(next)
+}
+
+// The ring of new faces, from the face `first` on, is closed, and the expansion is complete.
+fn close_ring(
+    adj: &mut [usize],
+    edge_face: &mut [usize],
+    edge_corner: &mut [usize],
+    run: Run,
+    first: usize,
+) -> Step
+    requires { ⌜ run .done ≤ 100 ⌝ }
+    ensures { λ r. ⌜ Closes run first (now (adj .entry)) (now («edge_face» .entry)) (now («edge_corner» .entry)) (now (adj .exit)) (now («edge_face» .exit)) (now («edge_corner» .exit)) r ⌝ }
+{
+    if run.faces == first {
+        return Step::Ended(End::Nothing(Lost::AllDeleted), run);
+    }
+    let last = before(run.faces);
+    set_three_at(adj, first, 2, last);
+    set_three_at(adj, last, 1, first);
+    complete(edge_face, edge_corner, run)
+}
+
+// New faces join the new vertex to the silhouette.
+fn regrow(
+    vertices: &[f32],
+    pts: &mut [usize],
+    adj: &mut [usize],
+    nums: &mut [f32],
+    dead: &mut [u8],
+    edge_face: &mut [usize],
+    edge_corner: &mut [usize],
+    heap_face: &mut [usize],
+    heap_key: &mut [f32],
+    rooms: Rooms,
+    run: Run,
+    turn: Turn,
+) -> Step
+    requires { ⌜ run .done ≤ 100 ⌝ }
+    ensures { λ r. ⌜ Regrows rooms run turn (now (vertices .entry)) (now (pts .entry)) (now (adj .entry)) (now (nums .entry)) (now (dead .entry)) (now («edge_face» .entry)) (now («edge_corner» .entry)) (now («heap_face» .entry)) (now («heap_key» .entry)) (now (pts .exit)) (now (adj .exit)) (now (nums .exit)) (now (dead .exit)) (now («edge_face» .exit)) (now («edge_corner» .exit)) (now («heap_face» .exit)) (now («heap_key» .exit)) r ⌝ }
+{
+    let edges = run.edges;
+    if edges == 0 {
+        return Step::Ended(End::Nothing(Lost::NoSilhouette), run);
+    }
+    let grown = grow_all(
+        vertices,
+        pts,
+        adj,
+        nums,
+        dead,
+        edge_face,
+        edge_corner,
+        heap_face,
+        heap_key,
+        rooms,
+        run,
+        turn,
+        edges,
+    );
+    match grown {
+        Step::Ended(_, _) => grown,
+        Step::Onward(next) => close_ring(adj, edge_face, edge_corner, next, run.faces),
+    }
+}
+
+// The polytope grows to the new vertex: the faces that it sees go, and new ones come.
+pub fn expand(
+    vertices: &[f32],
+    pts: &mut [usize],
+    adj: &mut [usize],
+    nums: &mut [f32],
+    dead: &mut [u8],
+    edge_face: &mut [usize],
+    edge_corner: &mut [usize],
+    heap_face: &mut [usize],
+    heap_key: &mut [f32],
+    rooms: Rooms,
+    run: Run,
+    turn: Turn,
+) -> Step
+    requires { ⌜ run .done ≤ 100 ⌝ }
+    ensures { λ r. ⌜ Expands rooms run turn (now (vertices .entry)) (now (pts .entry)) (now (adj .entry)) (now (nums .entry)) (now (dead .entry)) (now («edge_face» .entry)) (now («edge_corner» .entry)) (now («heap_face» .entry)) (now («heap_key» .entry)) (now (pts .exit)) (now (adj .exit)) (now (nums .exit)) (now (dead .exit)) (now («edge_face» .exit)) (now («edge_corner» .exit)) (now («heap_face» .exit)) (now («heap_key» .exit)) r ⌝ }
+{
+    let face = turn.face;
+    let point = turn.point;
+    set_dead(dead, face, 1);
+    let lined = silhouette(
+        vertices,
+        pts,
+        adj,
+        nums,
+        dead,
+        edge_face,
+        edge_corner,
+        rooms,
+        run,
+        point,
+        face,
+    );
+    match lined {
+        Step::Ended(_, _) => lined,
+        Step::Onward(next) => regrow(
+            vertices,
+            pts,
+            adj,
+            nums,
+            dead,
+            edge_face,
+            edge_corner,
+            heap_face,
+            heap_key,
+            rooms,
+            next,
+            turn,
+        ),
+    }
 }

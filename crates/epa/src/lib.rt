@@ -1,5 +1,63 @@
-// Penetration by the expanding polytope of epa3.rs, over stores that the caller lends: the pushes of a run, and the parts of an
-// expansion. Private, since some ask something of their caller.
+// Penetration: from two shapes that meet, the pose of the second in the frame of the first, and the simplex that GJK ended with, a
+// point on each and a normal, by the expanding polytope of epa3.rs. The caller lends the four stores.
+ghost use mathlib.Core.Path.{_≡_};
+ghost use Rattle.epa.specs.Final.{finalBy, penetration};
+
 mod expansion;
-mod steps;
+mod run;
+mod turns;
 mod types;
+
+use shape::Shape;
+use simplex::VoronoiSimplex;
+pub use types::Answer;
+pub use types::Counts;
+use vector::Pose;
+
+// `EPA::closest_points`.
+pub fn closest_points(
+    pos12: Pose,
+    g1: Shape,
+    g2: Shape,
+    simplex: VoronoiSimplex,
+    vertices: &mut [f32],
+    pts: &mut [usize],
+    adj: &mut [usize],
+    nums: &mut [f32],
+    dead: &mut [u8],
+    edge_face: &mut [usize],
+    edge_corner: &mut [usize],
+    heap_face: &mut [usize],
+    heap_key: &mut [f32],
+) -> Answer
+    ensures { λ r. ⌜ finalBy r (now (vertices .exit)) (now (pts .exit)) (now (adj .exit)) (now (nums .exit)) (now (dead .exit)) (now («edge_face» .exit)) (now («edge_corner» .exit)) (now («heap_face» .exit)) (now («heap_key» .exit)) ≡ penetration pos12 g1 g2 simplex (now (vertices .entry)) (now (pts .entry)) (now (adj .entry)) (now (nums .entry)) (now (dead .entry)) (now («edge_face» .entry)) (now («edge_corner» .entry)) (now («heap_face» .entry)) (now («heap_key» .entry)) ⌝ }
+{
+    let rooms = run::rooms_of(
+        vertices,
+        pts,
+        adj,
+        nums,
+        dead,
+        edge_face,
+        edge_corner,
+        heap_face,
+        heap_key,
+    );
+    let step = run::epa(
+        vertices,
+        pts,
+        adj,
+        nums,
+        dead,
+        edge_face,
+        edge_corner,
+        heap_face,
+        heap_key,
+        pos12,
+        g1,
+        g2,
+        rooms,
+        simplex,
+    );
+    run::answer_at(dead, step)
+}

@@ -2,25 +2,7 @@
 use polytope::Best;
 use polytope::End;
 use polytope::Run;
-use shape::Vertex;
-
-// A face and its key, the negated distance (`FaceId` of epa3.rs).
-pub struct FaceId {
-    pub id: usize,
-    pub neg_dist: f32,
-}
-
-// The Rust's `Option<FaceId>`, of a key that may be refused and of a heap that may be empty.
-pub enum MaybeFaceId {
-    Some(FaceId),
-    None,
-}
-
-// The Rust's `Option<CsoPoint>`.
-pub enum MaybeVertex {
-    Some(Vertex),
-    None,
-}
+use pushes::MaybeFaceId;
 
 // An entry that was popped, or none, and how many are left.
 pub struct Popped {

@@ -6,3 +6,6 @@ mod projections;
 mod searches;
 mod shapes;
 mod simplices;
+
+pub use shapes::RawShape;
+pub use shapes::shape_of;

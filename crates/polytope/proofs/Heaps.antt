@@ -1,4 +1,4 @@
--- The heap keeps its count, and holds no face but those that it was given. Assumes nothing.
+-- The heap keeps its count, holds no face but those that it was given, and writes no place but those of its entries. Assumes nothing.
 use mathlib.Core.Path.{_≡_, refl, sym, ap, subst, _∙_}
 use mathlib.Core.Bool.{Bool, true, false, cond}
 use mathlib.Core.List.{List, [], _∷_}
@@ -10,7 +10,9 @@ use lib.Dec.{ltb}
 use borrow.Author.Tests.{ltb-true, ltb-false, le-ltb}
 use Rattle.heap.specs.Heap.{Heap, Entry, heap, entryAt, put, swap, less, riseIn, rise, Placed, placed, greater, sinkIn, sink, pushed, cleared, settled, popped}
 use Rattle.polytope.proofs.Basics.{all-set, all-push, all-fewer, all-none}
+use Rattle.polytope.proofs.Places.{stays, after, one-set}
 use Rattle.polytope.specs.Bounds.{AllIn, Good}
+use Rattle.polytope.specs.Rule.{Untouched}
 
 module _ (n c : ℕ) where
   good-swap : (h : Heap) (i j : ℕ) → i < c → j < c → Good n c h → Good n c (swap h i j)
@@ -91,6 +93,83 @@ good-popped n (suc c) h g = sunk (sink first 0) (good-sunk n c first start)
 
     sunk : (p : Placed) → GoodAt n (suc c) p → Good n (suc c) (rise (p .heap) (p .place))
     sunk p q = good-risen n (suc c) (p .heap) (p .place) (q .inside) (q .good)
+
+-- ---- the places that are written
+
+-- the heap k is h but for places below c
+pub record Inside (c : ℕ) (h k : Heap) : Type 0 where
+  pub counts : k .count ≡ h .count
+  pub ofFaces : Untouched c (k .faces) (h .faces)
+  pub ofKeys : Untouched c (k .keys) (h .keys)
+
+module _ (c : ℕ) where
+  inside-self : (h : Heap) → Inside c h h
+  inside-self h = record { counts = refl; ofFaces = stays c (h .faces); ofKeys = stays c (h .keys) }
+
+  inside-after : {h k l : Heap} → Inside c h k → Inside c k l → Inside c h l
+  inside-after p q = record { counts = q .counts ∙ p .counts; ofFaces = after (omega arith) (q .ofFaces) (p .ofFaces); ofKeys = after (omega arith) (q .ofKeys) (p .ofKeys) }
+
+  inside-put : (h : Heap) (i : ℕ) (e : Entry) → i < c → Inside c h (put h i e)
+  inside-put h i e l = record { counts = refl; ofFaces = one-set (h .faces) i (e .face) c l; ofKeys = one-set (h .keys) i (e .key) c l }
+
+  inside-swap : (h : Heap) (i j : ℕ) → i < c → j < c → Inside c h (swap h i j)
+  unfolding swap
+  inside-swap h i j hi hj = inside-after (inside-put h i (entryAt h j) hi) (inside-put (put h i (entryAt h j)) j (entryAt h i) hj)
+
+  inside-rise : (n : ℕ) (h : Heap) (i : ℕ) → i < c → Inside c h (riseIn n h i)
+  unfolding riseIn
+  inside-rise zero h i l = inside-self h
+  inside-rise (suc n) h zero l = inside-self h
+  inside-rise (suc n) h (suc i) l =
+      by (less h (i / 2) (suc i)) (inside-after (inside-swap h (suc i) (i / 2) l (omega arith)) (inside-rise n (swap h (suc i) (i / 2)) (i / 2) (omega arith)))
+    where
+      by : (b : Bool) → Inside c h (riseIn n (swap h (suc i) (i / 2)) (i / 2)) → Inside c h (cond b (riseIn n (swap h (suc i) (i / 2)) (i / 2)) h)
+      by true x = x
+      by false x = inside-self h
+
+  record InsideAt (h : Heap) (p : Placed) : Type 0 where
+    inside : Inside c h (p .heap)
+    below : p .place < c
+
+  inside-sink : (n : ℕ) (h : Heap) (i : ℕ) → h .count ≤ c → i < c → InsideAt h (sinkIn n h i)
+  unfolding sinkIn
+  inside-sink zero h i f l = record { inside = inside-self h; below = l }
+  inside-sink (suc n) h i f l =
+      by (ltb (i * 2 + 1 + 1) (h .count)) (ltb (i * 2 + 1) (h .count)) refl refl
+      (λ m. let s = inside-swap h i (greater (h .keys) (i * 2 + 1)) l m in deep s (inside-sink n (swap h i (greater (h .keys) (i * 2 + 1))) (greater (h .keys) (i * 2 + 1)) (omega (arith, s .counts)) m))
+    where
+      deep : {k : Heap} {p : Placed} → Inside c h k → InsideAt k p → InsideAt h p
+      deep s x = record { inside = inside-after s (x .inside); below = x .below }
+
+      by : (a b : Bool) → ltb (i * 2 + 1 + 1) (h .count) ≡ a → ltb (i * 2 + 1) (h .count) ≡ b
+          → (greater (h .keys) (i * 2 + 1) < c → InsideAt h (sinkIn n (swap h i (greater (h .keys) (i * 2 + 1))) (greater (h .keys) (i * 2 + 1))))
+          → InsideAt h (cond a (sinkIn n (swap h i (greater (h .keys) (i * 2 + 1))) (greater (h .keys) (i * 2 + 1))) (cond b (placed (swap h i (i * 2 + 1)) (i * 2 + 1)) (placed h i)))
+      by true b ea eb deeper = deeper (greater-in 0 c h (i * 2 + 1) (omega (arith, ltb-true (i * 2 + 1 + 1) (h .count) ea)))
+      by false true ea eb deeper =
+          let m : i * 2 + 1 < c = omega (arith, ltb-true (i * 2 + 1) (h .count) eb) in
+          record { inside = inside-swap h i (i * 2 + 1) l m; below = m }
+      by false false ea eb deeper = record { inside = inside-self h; below = l }
+
+  inside-settled : (h : Heap) → h .count ≤ c → 0 < c → Inside c h (settled h)
+  unfolding settled rise sink
+  inside-settled h f l = by (sinkIn (h .count) h 0) (inside-sink (h .count) h 0 f l)
+    where
+      by : (p : Placed) → InsideAt h p → Inside c h (riseIn (suc (p .place)) (p .heap) (p .place))
+      by p x = inside-after (x .inside) (inside-rise (suc (p .place)) (p .heap) (p .place) (x .below))
+
+-- a push writes at the count, and below
+pub inside-pushed : (h : Heap) (e : Entry) → Inside (h .count + 1) (heap (h .faces) (h .keys) (h .count + 1)) (pushed h e)
+unfolding pushed rise
+inside-pushed h e =
+    let c = h .count + 1 in
+    inside-after c (inside-put c (heap (h .faces) (h .keys) c) (h .count) e (omega arith)) (inside-rise c (suc (h .count)) _ (h .count) (omega arith))
+
+-- a pop, of n + 1 entries, clears the place n, and writes below
+pub inside-popped : (h : Heap) (n : ℕ) → Inside n (cleared h n) (popped h n)
+unfolding popped
+inside-popped h zero = inside-self zero (cleared h zero)
+inside-popped h (suc n) =
+    inside-after (suc n) (inside-put (suc n) (cleared h (suc n)) 0 (entryAt h (suc n)) (omega arith)) (inside-settled (suc n) (put (cleared h (suc n)) 0 (entryAt h (suc n))) (omega arith) (omega arith))
 
 -- ---- the depths suffice
 

@@ -1,7 +1,7 @@
--- The start, and the whole run: demand 3. Assumes nothing.
+-- The start, and the whole run: demand 3, with what every move keeps. Assumes nothing.
 use mathlib.Core.Path.{_≡_, refl, sym, ap, subst, _∙_}
 use mathlib.Core.Bool.{Bool, true, false, cond, not, _&&_}
-use mathlib.Core.List.{List, [], _∷_}
+use mathlib.Core.List.{[], _∷_}
 use mathlib.Core.Option.{Option, none, some}
 use Prim.Native.Nat.{ℕ, zero, suc, _+_, _*_, _<_, _≤_}
 use native.Mathlib.Omega.{arith}
@@ -12,300 +12,34 @@ use borrow.Author.Tests.{eqb-true, eqb-false, leb-true, not-false}
 use Rattle.shape.specs.declared.vertex.Vertex.{Vertex}
 use Rattle.polytope.specs.declared.types.Made.{Made}
 use Rattle.heap.specs.Heap.{Heap, Entry, pushed}
-use Rattle.polytope.specs.Polytope.{World, State, Rooms, VoronoiSimplex, Verts, End, answers, nothing, panics, noRoom, Store, theVerts, theFaces, theEdges, theHeap, keyAtStart, singlePoint, Out, onward, ended, Act, _>>=_, _>>_, Nil, pure, look, put, withVerts, withFaces, withQueue, putVertex, exchanged, oneMore, liveTo, live, threeN, pushPoints, firstFar, second, bootstrap, distTol, queueStart, startFour, fourFaces, queueFour, third, twoFaces, startTwo, startVertices, startFaces, expansions, turns, epa, fresh, roomsOf, runEpa, vertexAt}
-use Rattle.polytope.specs.Bounds.{AllIn, Good, Sound, bound, Within, Small, Tight, Starting, without, with-all, Ended, Ends, facesAtStart, Ample}
+use Rattle.polytope.specs.Polytope.{World, State, Rooms, VoronoiSimplex, Verts, Best, End, answers, nothing, panics, noRoom, Store, theVerts, theFaces, theEdges, theHeap, keyAtStart, singlePoint, Out, onward, ended, Act, _>>=_, _>>_, Nil, pure, look, put, withFaces, withQueue, putVertex, oneMore, liveTo, live, threeN, pushPoints, firstFar, second, bootstrap, distTol, queueStart, startFour, fourFaces, queueFour, third, twoFaces, startTwo, startVertices, startFaces, expansions, turns, epa, fresh, roomsOf, runEpa, vertexAt}
+use Rattle.polytope.specs.Bounds.{AllIn, Good, Sound, Between, started, expanded, bound, Within, Small, Tight, Starting, without, with-all, Ended, Ends, facesAtStart, Ample}
 use Rattle.polytope.proofs.Basics.{all-as, all-three, all-none, live-push}
 use Rattle.polytope.proofs.Sizes.{bound-zero, bound-most}
 use Rattle.polytope.proofs.Heaps.{good-pushed}
-use Rattle.polytope.proofs.Growth.{Ready}
-use Rattle.polytope.proofs.Turns.{Best-ready, meets-turns}
+use Rattle.polytope.proofs.Growth.{Ready, Ending}
+use Rattle.polytope.proofs.Moves.{Keeps, withVertex, withExchange}
+use Rattle.polytope.proofs.Turns.{IsLive, Best-ready, meets-popLive, meets-turnIf, meets-turns}
 use Rattle.heap.specs.Heap as Heap
 use Rattle.number.specs.Constants.{largest}
 use Rattle.vector.specs.Vector.{zeroF}
 use Rattle.simplex.specs.Simplex.{isSimplex}
 use Rattle.polytope.proofs.Steps.{Meets, goes, meets-bind, meets-then, meets-look, meets-put, meets-pure, meets-ok, meets-stop, meets-stopIf, meets-doIf, meets-branch, meets-face, meets-queue, meets-vertex, meets-map}
 
--- before the first expansion: v vertices, n of f faces, and at most q entries in the heap
-record Begun (f v n q : ℕ) (s : State) : Type 0 where
-  vertsAre : s .verts .count ≡ v
-  madeAre : s .faces .count ≡ n
-  adjIn : AllIn f (n * 3) (s .faces .adj)
-  ptsIn : AllIn v (n * 3) (s .faces .pts)
-  liveFew : liveTo n (s .faces .dead) ≤ n
-  queueIn : Good f (s .queue .count) (s .queue)
-  queueFew : s .queue .count ≤ q
-  noneDone : s .done ≡ 0
-  noneMost : s .most ≡ 0
-
-module _ (f : ℕ) (r : Rooms) where
-  abbrev E : End → State → Type 0
-  E = Ended f r
-
-  begun-within : (v n q : ℕ) (s : State) → v ≤ 4 → n ≤ f → q ≤ f → Begun f v n q s → Within f 0 s
-  begun-within v n q s hv hn hq h =
-      let z = bound-zero f in
-      record {
-        fewVerts = omega (arith, h .vertsAre);
-        fewLive = rw (h .madeAre) (omega (arith, h .liveFew));
-        fewMade = omega (arith, h .madeAre);
-        fewEdges = omega (arith, h .noneMost);
-        fewQueued = omega (arith, h .queueFew);
-      }
-
-  end-begun : (v n q : ℕ) (e : End) (s : State) → v ≤ 4 → n ≤ f → q ≤ f → Begun f v n q s → Tight f 0 r e → E e s
-  end-begun v n q e s hv hn hq h t =
-      record { from = f; starting = with-all; turns = 0; atMost = omega arith; completed = omega (arith, h .noneDone); underWay = omega arith; within = begun-within v n q s hv hn hq h; tight = t }
-
-  begun-ready : (v q : ℕ) (s : State) → 0 < f → v ≤ 4 → q ≤ f → Begun f v f q s → Ready f 0 s
-  begun-ready v q s hf hv hq h = record {
-    sound = record {
-      some = omega (arith, h .madeAre);
-      adjIn = rw (h .madeAre) (h .adjIn);
-      ptsIn = rw (h .madeAre, h .vertsAre) (h .ptsIn);
-      queueIn = rw (h .madeAre) (h .queueIn);
-      queueFew = omega (arith, h .queueFew, h .madeAre);
-    };
-    within = begun-within v f q s hv (omega arith) hq h;
-    completed = h .noneDone;
-  }
-
-  -- ---- vertices
-
-  begun-vertex : (v : ℕ) (s : State) (cells : List Float) → Begun f v 0 0 s → Begun f (v + 1) 0 0 (withVerts s (record { cells = cells; count = s .verts .count + 1 }))
-  begun-vertex v s cells h = record {
-    vertsAre = omega (arith, h .vertsAre);
-    madeAre = h .madeAre;
-    adjIn = h .adjIn;
-    ptsIn = all-none _ _;
-    liveFew = h .liveFew;
-    queueIn = h .queueIn;
-    queueFew = h .queueFew;
-    noneDone = h .noneDone;
-    noneMost = h .noneMost;
-  }
-
-  meets-oneVertex : (v : ℕ) (x : Vertex) (s : State) → v < 4 → Begun f v 0 0 s → Meets (λ _ t. Begun f (v + 1) 0 0 t) E (Rattle.polytope.specs.Polytope.pushVertex r x s)
-  meets-oneVertex v x s l h =
-      meets-vertex E _ r x s
-      (λ full. end-begun v 0 0 _ s (omega arith) (omega arith) (omega arith) h (omega (arith, h .vertsAre)))
-      (begun-vertex v s _ h)
-
-  meets-points : (x : VoronoiSimplex) (n i v : ℕ) (s : State) → v + n ≤ 4 → Begun f v 0 0 s → Meets (λ _ t. Begun f (v + n) 0 0 t) E (pushPoints r x n i s)
-  unfolding pushPoints
-  meets-points x zero i v s l h = meets-ok E _ s (rw native.Mathlib.Nat.add-zero h)
-  meets-points x (suc n) i v s l h =
-      let e : v + suc n ≡ v + 1 + n = omega arith in
-      rw e (meets-then E (λ _ t. Begun f (v + 1) 0 0 t) _ _ _ s (meets-oneVertex v _ s (omega arith) h) λ _ t h1. meets-points x n (i + 1) (v + 1) t (omega arith) h1)
-
-  meets-second : (x : Vertex) (o : Option Vertex) (s : State) → Begun f 1 0 0 s → Meets (λ _ t. Begun f 2 0 0 t) E (second r x o s)
-  meets-second x none s h =
-      let z = bound-zero 0 in
-      let l : live s ≤ 0 = rw (h .madeAre) (h .liveFew) in
-      meets-stop E _ _ s (record {
-        from = 0;
-        starting = without;
-        turns = 0;
-        atMost = omega arith;
-        completed = omega (arith, h .noneDone);
-        underWay = omega arith;
-        within = record { fewVerts = omega (arith, h .vertsAre); fewLive = l; fewMade = omega (arith, h .madeAre); fewEdges = omega (arith, h .noneMost); fewQueued = omega (arith, h .queueFew) };
-        tight = refl;
-      })
-  meets-second x (some p) s h =
-      meets-oneVertex 1 p s (omega arith) h
-
-  meets-bootstrap : (w : World) (s : State) → Begun f 1 0 0 s → Meets (λ _ t. Begun f 2 0 0 t) E (bootstrap w r s)
-  unfolding bootstrap
-  meets-bootstrap w s h = meets-look E _ _ s (meets-second (vertexAt (s .verts .cells) 0) (firstFar w (vertexAt (s .verts .cells) 0 .point) 6 0) s h)
-
-  meets-third : (w : World) (s : State) → Begun f 2 0 0 s → Meets (λ _ t. Begun f 3 0 0 t) E (third w r s)
-  unfolding third
-  meets-third w s h =
-      meets-look E _ _ s
-      (meets-then E (λ _ t. Begun f 2 0 0 t) _ _ _ s
-      (meets-stopIf E _ _ _ s (λ _. end-begun 2 0 0 _ s (omega arith) (omega arith) (omega arith) h tt) (λ _. h)) λ _ t h1.
-      meets-oneVertex 2 _ t (omega arith) h1)
-
-  -- ---- faces and their keys
-
-  module _ (v : ℕ) (hv : v ≤ 4) where
-    begun-face : (n a b c x y z : ℕ) (m : Made) (s : State) → a < v → b < v → c < v → x < f → y < f → z < f → Begun f v n 0 s
-        → Begun f v (n + 1) 0 (withFaces s (oneMore (s .faces) (threeN a b c) (threeN x y z) m))
-    unfolding oneMore
-    begun-face n a b c x y z m s ha hb hc hx hy hz h =
-        let e = h .madeAre in
-        record {
-          vertsAre = h .vertsAre;
-          madeAre = omega arith;
-          adjIn = rw e (all-as _ f f (n * 3 + 3) ((n + 1) * 3) (omega arith) (omega arith) (all-three (s .faces .adj) f (n * 3) x y z hx hy hz (h .adjIn)));
-          ptsIn = rw e (all-as _ v v (n * 3 + 3) ((n + 1) * 3) (omega arith) (omega arith) (all-three (s .faces .pts) v (n * 3) a b c ha hb hc (h .ptsIn)));
-          liveFew = rw e (omega (arith, live-push n (s .faces .dead), h .liveFew));
-          queueIn = h .queueIn;
-          queueFew = h .queueFew;
-          noneDone = h .noneDone;
-          noneMost = h .noneMost;
-        }
-
-    meets-oneFace : (n a b c x y z : ℕ) (m : Made) (s : State) → n < f → a < v → b < v → c < v → x < f → y < f → z < f → Begun f v n 0 s
-        → Meets (λ _ t. Begun f v (n + 1) 0 t) E (Rattle.polytope.specs.Polytope.pushFace r (threeN a b c) (threeN x y z) m s)
-    meets-oneFace n a b c x y z m s hn ha hb hc hx hy hz h =
-        meets-face E _ r _ _ m s
-        (λ full. end-begun v n 0 _ s hv (omega arith) (omega arith) h (omega (arith, h .madeAre, bound-zero f)))
-        (begun-face n a b c x y z m s ha hb hc hx hy hz h)
-
-    begun-queue : (q : ℕ) (s : State) (e : Entry) → e .face < f → Begun f v f q s → Begun f v f (q + 1) (withQueue s (pushed (s .queue) e))
-    begun-queue q s e l h =
-        let g = good-pushed f (s .queue .count) (s .queue) e l (h .queueIn) in
-        record {
-          vertsAre = h .vertsAre;
-          madeAre = h .madeAre;
-          adjIn = h .adjIn;
-          ptsIn = h .ptsIn;
-          liveFew = h .liveFew;
-          queueIn = record { counts = refl; each = rw (g .counts) (g .each) };
-          queueFew = omega (arith, g .counts, h .queueFew);
-          noneDone = h .noneDone;
-          noneMost = h .noneMost;
-        }
-
-    meets-oneKey : (q : ℕ) (tol key : Float) (i : ℕ) (s : State) → q < f → i < f → Begun f v f q s → Meets (λ _ t. Begun f v f (q + 1) t) E (Rattle.polytope.specs.Polytope.queueFace r keyAtStart tol i key s)
-    meets-oneKey q tol key i s lq li h =
-        meets-queue E _ r keyAtStart tol i key s
-        (end-begun v f q _ s hv (omega arith) (omega arith) h tt)
-        (λ full. end-begun v f q _ s hv (omega arith) (omega arith) h (omega (arith, h .queueFew, bound-zero f)))
-        (begun-queue q s _ li h)
-
-    begun-more : (n q : ℕ) (s : State) → Begun f v n q s → Begun f v n (q + 1) s
-    begun-more n q s h = record { vertsAre = h .vertsAre; madeAre = h .madeAre; adjIn = h .adjIn; ptsIn = h .ptsIn; liveFew = h .liveFew; queueIn = h .queueIn; queueFew = omega (arith, h .queueFew); noneDone = h .noneDone; noneMost = h .noneMost }
-
-    meets-queueStart : (w : World) (q : ℕ) (tol : Float) (i : ℕ) (b : Bool) (s : State) → q < f → i < f → Begun f v f q s → Meets (λ _ t. Begun f v f (q + 1) t) E (queueStart w r tol i b s)
-    unfolding queueStart
-    meets-queueStart w q tol i b s lq li h =
-        meets-doIf E _ b _ s (λ _. meets-look E _ _ s (meets-oneKey q tol _ i s lq li h)) (λ _. begun-more f q s h)
-
--- two faces
-meets-two : (r : Rooms) (w : World) (tol : Float) (v : ℕ) (s : State) → 2 ≤ v → v ≤ 3 → Begun 2 v 0 0 s → Meets (λ _ t. Ready 2 0 t) (Ended 2 r) (startTwo w r tol s)
-unfolding startTwo twoFaces
-meets-two r w tol v s l2 l3 h =
-    let E = Ended 2 r in
-    meets-look E _ _ s
-    (meets-then E (λ _ t. Begun 2 3 0 0 t) _ _ _ s
-    (meets-doIf E _ _ _ s
-    (λ e. let q : v ≡ 2 = omega (arith, h .vertsAre, eqb-true (s .verts .count) 2 e) in meets-third 2 r w s (rw q at h))
-    (λ e. let q : v ≡ 3 = omega (arith, h .vertsAre, eqb-false (s .verts .count) 2 e) in rw q at h)) λ _ s1 h1.
-    meets-look E _ _ s1
-    (meets-then E (λ _ t. Begun 2 3 1 0 t) _ _ _ s1
-    (meets-oneFace 2 r 3 (omega arith) 0 0 1 2 1 1 1 _ s1 (omega arith) (omega arith) (omega arith) (omega arith) (omega arith) (omega arith) (omega arith) h1) λ _ s2 h2.
-    meets-then E (λ _ t. Begun 2 3 2 0 t) _ _ _ s2
-    (meets-oneFace 2 r 3 (omega arith) 1 0 2 1 0 0 0 _ s2 (omega arith) (omega arith) (omega arith) (omega arith) (omega arith) (omega arith) (omega arith) h2) λ _ s3 h3.
-    meets-then E (λ _ t. Begun 2 3 2 1 t) _ _ _ s3 (meets-oneKey 2 r 3 (omega arith) 0 tol _ 0 s3 (omega arith) (omega arith) h3) λ _ s4 h4.
-    meets-map E (λ _ t b. begun-ready 2 r 3 2 t (omega arith) (omega arith) (omega arith) b) (meets-oneKey 2 r 3 (omega arith) 1 tol _ 1 s4 (omega arith) (omega arith) h4)))
-
--- four faces
-meets-fourFaces : (r : Rooms) (m1 m2 m3 m4 : Made) (s : State) → Begun 4 4 0 0 s → Meets (λ _ t. Begun 4 4 4 0 t) (Ended 4 r) (fourFaces r m1 m2 m3 m4 s)
-unfolding fourFaces
-meets-fourFaces r m1 m2 m3 m4 s0 h0 =
-    let E = Ended 4 r in
-    let l0 : 0 < 4 = omega arith in
-    let l1 : 1 < 4 = omega arith in
-    let l2 : 2 < 4 = omega arith in
-    let l3 : 3 < 4 = omega arith in
-    meets-then E (λ _ t. Begun 4 4 1 0 t) _ _ _ s0 (meets-oneFace 4 r 4 (omega arith) 0 0 1 2 3 1 2 _ s0 l0 l0 l1 l2 l3 l1 l2 h0) λ _ s1 h1.
-    meets-then E (λ _ t. Begun 4 4 2 0 t) _ _ _ s1 (meets-oneFace 4 r 4 (omega arith) 1 1 3 2 3 2 0 _ s1 l1 l1 l3 l2 l3 l2 l0 h1) λ _ s2 h2.
-    meets-then E (λ _ t. Begun 4 4 3 0 t) _ _ _ s2 (meets-oneFace 4 r 4 (omega arith) 2 0 2 3 0 1 3 _ s2 l2 l0 l2 l3 l0 l1 l3 h2) λ _ s3 h3.
-    meets-oneFace 4 r 4 (omega arith) 3 0 3 1 2 1 0 _ s3 l3 l0 l3 l1 l2 l1 l0 h3
-
-meets-queueFour : (r : Rooms) (w : World) (tol : Float) (a b c d : Bool) (s : State) → Begun 4 4 4 0 s → Meets (λ _ t. Ready 4 0 t) (Ended 4 r) (queueFour w r tol a b c d s)
-unfolding queueFour
-meets-queueFour r w tol a b c d s4 h4 =
-    let E = Ended 4 r in
-    meets-then E (λ _ t. Begun 4 4 4 1 t) _ _ _ s4 (meets-queueStart 4 r 4 (omega arith) w 0 tol 0 _ s4 (omega arith) (omega arith) h4) λ _ s5 h5.
-    meets-then E (λ _ t. Begun 4 4 4 2 t) _ _ _ s5 (meets-queueStart 4 r 4 (omega arith) w 1 tol 1 _ s5 (omega arith) (omega arith) h5) λ _ s6 h6.
-    meets-then E (λ _ t. Begun 4 4 4 3 t) _ _ _ s6 (meets-queueStart 4 r 4 (omega arith) w 2 tol 2 _ s6 (omega arith) (omega arith) h6) λ _ s7 h7.
-    meets-then E (λ _ t. Begun 4 4 4 4 t) _ _ _ s7 (meets-queueStart 4 r 4 (omega arith) w 3 tol 3 _ s7 (omega arith) (omega arith) h7) λ _ s8 h8.
-    meets-stopIf E _ _ _ s8
-    (λ _. end-begun 4 r 4 4 4 _ s8 (omega arith) (omega arith) (omega arith) h8 tt)
-    (λ _. begun-ready 4 r 4 4 s8 (omega arith) (omega arith) (omega arith) h8)
-
-meets-four : (r : Rooms) (w : World) (tol : Float) (s : State) → Begun 4 4 0 0 s → Meets (λ _ t. Ready 4 0 t) (Ended 4 r) (startFour w r tol s)
-unfolding startFour
-meets-four r w tol s h =
-    let E = Ended 4 r in
-    meets-look E _ _ s
-    (meets-then E (λ _ t. Begun 4 4 0 0 t) _ _ _ s
-    (meets-doIf E _ _ _ s (λ _. meets-put E _ _ s (begun-exchanged s h)) (λ _. h)) λ _ s0 h0.
-    meets-look E _ _ s0
-    (meets-then E (λ _ t. Begun 4 4 4 0 t) _ _ _ s0 (meets-fourFaces r _ _ _ _ s0 h0) λ _ s4 h4.
-    meets-queueFour r w tol _ _ _ _ s4 h4))
-  where
-    begun-exchanged : (s : State) → Begun 4 4 0 0 s → Begun 4 4 0 0 (withVerts s (record { cells = exchanged (s .verts .cells); count = s .verts .count }))
-    begun-exchanged s h = record { vertsAre = h .vertsAre; madeAre = h .madeAre; adjIn = h .adjIn; ptsIn = h .ptsIn; liveFew = h .liveFew; queueIn = h .queueIn; queueFew = h .queueFew; noneDone = h .noneDone; noneMost = h .noneMost }
-
--- ---- the whole run
-
 -- the stores with no entries
 pub record Empty (s : State) : Type 0 where
   pub noVerts : s .verts .count ≡ 0
   pub noFaces : s .faces .count ≡ 0
+  pub noEdges : s .edged .count ≡ 0
   pub noQueue : s .queue .count ≡ 0
   pub noDone : s .done ≡ 0
   pub noMost : s .most ≡ 0
-
-begun : (f : ℕ) (s : State) → Empty s → Begun f 0 0 0 s
-unfolding liveTo
-begun f s h = record {
-  vertsAre = h .noVerts;
-  madeAre = h .noFaces;
-  adjIn = all-none _ _;
-  ptsIn = all-none _ _;
-  liveFew = omega arith;
-  queueIn = record { counts = refl; each = rw (h .noQueue) (all-none _ _) };
-  queueFew = omega (arith, h .noQueue);
-  noneDone = h .noDone;
-  noneMost = h .noMost;
-}
-
--- the vertices after the bootstrap
-record Early (f d : ℕ) (s : State) : Type 0 where
-  verts : ℕ
-  begins : Begun f verts 0 0 s
-  four : d ≡ 3 → verts ≡ 4
-  two : (d ≡ 3 → ⊥) → (2 ≤ verts) × (verts ≤ 3)
 
 starts : (b : Bool) → b ≡ true → _≡_ {A = ℕ} (cond b 4 2) 4
 starts b e = rw e
 
 starts-two : (b : Bool) → b ≡ false → _≡_ {A = ℕ} (cond b 4 2) 2
 starts-two b e = rw e
-
-module _ (w : World) (r : Rooms) (x : VoronoiSimplex) (small : x .dim ≤ 3) where
-  abbrev F : ℕ
-  F = facesAtStart x
-
-  meets-vertices : (s : State) → Empty s → Meets (λ _ t. Early F (x .dim) t) (Ended F r) (startVertices w r x s)
-  unfolding startVertices
-  meets-vertices s h =
-      let d = x .dim in
-      let E = Ended F r in
-      meets-then E (λ _ t. Begun F (d + 1) 0 0 t) _ _ _ s
-      (meets-map E (λ _ t b. rw native.Mathlib.Nat.zero-add at b) (meets-points F r x (d + 1) 0 0 s (omega arith) (begun F s h))) λ _ s1 h1.
-      meets-doIf E _ (eqb d 0) (bootstrap w r) s1
-      (λ e. let q : d ≡ 0 = eqb-true d 0 e in
-      let h1' : Begun F 1 0 0 s1 = subst (λ (n : ℕ). Begun F (n + 1) 0 0 s1) q h1 in
-      meets-map E (λ _ t b. record { verts = 2; begins = b; four = λ z. omega arith; two = λ z. (omega arith, omega arith) }) (meets-bootstrap F r w s1 h1'))
-      (λ e. let q : d ≡ 0 → ⊥ = eqb-false d 0 e in record { verts = d + 1; begins = h1; four = λ z. omega arith; two = λ z. (omega arith, omega arith) })
-
-  meets-faces : (tol : Float) (s2 : State) → Early F (x .dim) s2 → Meets (λ _ t. Ready F 0 t) (Ended F r) (startFaces w r (x .dim) tol s2)
-  unfolding startFaces
-  meets-faces tol s2 h2 =
-      let d = x .dim in
-      let E = Ended F r in
-      meets-branch E _ (eqb d 3) _ _ s2
-      (λ e. let q : d ≡ 3 = eqb-true d 3 e in
-      let b : Begun F 4 0 0 s2 = subst (λ (n : ℕ). Begun F n 0 0 s2) (h2 .four q) (h2 .begins) in
-      subst (λ (n : ℕ). Begun n 4 0 0 s2 → Meets (λ _ t. Ready n 0 t) (Ended n r) (startFour w r tol s2)) (sym (starts (eqb d 3) e)) (λ c. meets-four r w _ s2 c) b)
-      (λ e. let q = h2 .two (eqb-false d 3 e) in
-      subst (λ (n : ℕ). Begun n (h2 .verts) 0 0 s2 → Meets (λ _ t. Ready n 0 t) (Ended n r) (startTwo w r tol s2)) (sym (starts-two (eqb d 3) e)) (λ c. meets-two r w _ (h2 .verts) s2 (q .0) (q .1) c) (h2 .begins))
 
 -- a simplex has dimension 3 at most
 pub low-dimension : (x : VoronoiSimplex) → isSimplex x ≡ true → x .dim ≤ 3
@@ -316,40 +50,360 @@ low-dimension x e = leb-true (x .dim) 3 (and-left _ _ (and-left _ _ (and-left _ 
     and-left true b e = refl
     and-left false b e = e
 
+-- ---- the start and the run, with a fact J that every move keeps
+
+module _ (J : State → Type 0) (r : Rooms) (K : Keeps r J) where
+  -- before the first expansion: v vertices, n of f faces, and at most q entries in the heap
+  record Begun (f v n q : ℕ) (s : State) : Type 0 where
+    vertsAre : s .verts .count ≡ v
+    madeAre : s .faces .count ≡ n
+    adjIn : AllIn f (n * 3) (s .faces .adj)
+    ptsIn : AllIn v (n * 3) (s .faces .pts)
+    liveFew : liveTo n (s .faces .dead) ≤ n
+    queueIn : Good f (s .queue .count) (s .queue)
+    queueFew : s .queue .count ≤ q
+    noneDone : s .done ≡ 0
+    noneMost : s .most ≡ 0
+    noEdges : s .edged .count ≡ 0
+    kept : J s
+
+  module _ (f : ℕ) where
+    abbrev E : End → State → Type 0
+    E = Ending J f r
+
+    begun-within : (v n q : ℕ) (s : State) → v ≤ 4 → n ≤ f → q ≤ f → Begun f v n q s → Within f 0 s
+    begun-within v n q s hv hn hq h =
+        let z = bound-zero f in
+        record {
+          fewVerts = omega (arith, h .vertsAre);
+          fewLive = rw (h .madeAre) (omega (arith, h .liveFew));
+          fewMade = omega (arith, h .madeAre);
+          fewEdges = omega (arith, h .noneMost);
+          fewQueued = omega (arith, h .queueFew);
+        }
+
+    end-begun : (v n q : ℕ) (e : End) (s : State) → v ≤ 4 → n ≤ f → q ≤ f → Begun f v n q s → Tight f 0 r e → E e s
+    end-begun v n q e s hv hn hq h t =
+        (record { from = f; starting = with-all; turns = 0; atMost = omega arith; completed = omega (arith, h .noneDone); underWay = omega arith; within = begun-within v n q s hv hn hq h; tight = t }, h .kept)
+
+    begun-ready : (v q : ℕ) (s : State) → 0 < f → v ≤ 4 → q ≤ f → Begun f v f q s → Ready J f 0 s
+    begun-ready v q s hf hv hq h = record {
+      sound = record {
+        some = omega (arith, h .madeAre);
+        adjIn = rw (h .madeAre) (h .adjIn);
+        ptsIn = rw (h .madeAre, h .vertsAre) (h .ptsIn);
+        queueIn = rw (h .madeAre) (h .queueIn);
+        queueFew = omega (arith, h .queueFew, h .madeAre);
+      };
+      within = begun-within v f q s hv (omega arith) hq h;
+      completed = h .noneDone;
+      noEdges = h .noEdges;
+      kept = h .kept;
+    }
+
+    -- ---- vertices
+
+    begun-vertex : (v : ℕ) (s : State) (p : Vertex) → s .verts .count < r .vertices → Begun f v 0 0 s → Begun f (v + 1) 0 0 (withVertex s p)
+    begun-vertex v s p room h = record {
+      vertsAre = omega (arith, h .vertsAre);
+      madeAre = h .madeAre;
+      adjIn = h .adjIn;
+      ptsIn = all-none _ _;
+      liveFew = h .liveFew;
+      queueIn = h .queueIn;
+      queueFew = h .queueFew;
+      noneDone = h .noneDone;
+      noneMost = h .noneMost;
+      noEdges = h .noEdges;
+      kept = K .onVertex s p room (h .kept);
+    }
+
+    meets-oneVertex : (v : ℕ) (x : Vertex) (s : State) → v < 4 → Begun f v 0 0 s → Meets (λ _ t. Begun f (v + 1) 0 0 t) E (Rattle.polytope.specs.Polytope.pushVertex r x s)
+    meets-oneVertex v x s l h =
+        meets-vertex E _ r x s
+        (λ full. end-begun v 0 0 _ s (omega arith) (omega arith) (omega arith) h (omega (arith, h .vertsAre)))
+        (λ room. begun-vertex v s _ room h)
+
+    meets-points : (x : VoronoiSimplex) (n i v : ℕ) (s : State) → v + n ≤ 4 → Begun f v 0 0 s → Meets (λ _ t. Begun f (v + n) 0 0 t) E (pushPoints r x n i s)
+    unfolding pushPoints
+    meets-points x zero i v s l h = meets-ok E _ s (rw native.Mathlib.Nat.add-zero h)
+    meets-points x (suc n) i v s l h =
+        let e : v + suc n ≡ v + 1 + n = omega arith in
+        rw e (meets-then E (λ _ t. Begun f (v + 1) 0 0 t) _ _ _ s (meets-oneVertex v _ s (omega arith) h) λ _ t h1. meets-points x n (i + 1) (v + 1) t (omega arith) h1)
+
+    meets-second : (x : Vertex) (o : Option Vertex) (s : State) → Begun f 1 0 0 s → Meets (λ _ t. Begun f 2 0 0 t) E (second r x o s)
+    meets-second x none s h =
+        let z = bound-zero 0 in
+        let l : live s ≤ 0 = rw (h .madeAre) (h .liveFew) in
+        meets-stop E _ _ s (
+          record {
+            from = 0;
+            starting = without;
+            turns = 0;
+            atMost = omega arith;
+            completed = omega (arith, h .noneDone);
+            underWay = omega arith;
+            within = record { fewVerts = omega (arith, h .vertsAre); fewLive = l; fewMade = omega (arith, h .madeAre); fewEdges = omega (arith, h .noneMost); fewQueued = omega (arith, h .queueFew) };
+            tight = refl;
+          },
+          h .kept,
+        )
+    meets-second x (some p) s h =
+        meets-oneVertex 1 p s (omega arith) h
+
+    meets-bootstrap : (w : World) (s : State) → Begun f 1 0 0 s → Meets (λ _ t. Begun f 2 0 0 t) E (bootstrap w r s)
+    unfolding bootstrap
+    meets-bootstrap w s h = meets-look E _ _ s (meets-second (vertexAt (s .verts .cells) 0) (firstFar w (vertexAt (s .verts .cells) 0 .point) 6 0) s h)
+
+    meets-third : (w : World) (s : State) → Begun f 2 0 0 s → Meets (λ _ t. Begun f 3 0 0 t) E (third w r s)
+    unfolding third
+    meets-third w s h =
+        meets-look E _ _ s
+        (meets-then E (λ _ t. Begun f 2 0 0 t) _ _ _ s
+        (meets-stopIf E _ _ _ s (λ _. end-begun 2 0 0 _ s (omega arith) (omega arith) (omega arith) h tt) (λ _. h)) λ _ t h1.
+        meets-oneVertex 2 _ t (omega arith) h1)
+
+    -- ---- faces and their keys
+
+    module _ (v : ℕ) (hv : v ≤ 4) where
+      begun-face : (n a b c x y z : ℕ) (m : Made) (s : State) → a < v → b < v → c < v → x < f → y < f → z < f → s .faces .count < r .faces → Begun f v n 0 s
+          → Begun f v (n + 1) 0 (withFaces s (oneMore (s .faces) (threeN a b c) (threeN x y z) m))
+      unfolding oneMore
+      begun-face n a b c x y z m s ha hb hc hx hy hz room h =
+          let e = h .madeAre in
+          record {
+            vertsAre = h .vertsAre;
+            madeAre = omega arith;
+            adjIn = rw e (all-as _ f f (n * 3 + 3) ((n + 1) * 3) (omega arith) (omega arith) (all-three (s .faces .adj) f (n * 3) x y z hx hy hz (h .adjIn)));
+            ptsIn = rw e (all-as _ v v (n * 3 + 3) ((n + 1) * 3) (omega arith) (omega arith) (all-three (s .faces .pts) v (n * 3) a b c ha hb hc (h .ptsIn)));
+            liveFew = rw e (omega (arith, live-push n (s .faces .dead), h .liveFew));
+            queueIn = h .queueIn;
+            queueFew = h .queueFew;
+            noneDone = h .noneDone;
+            noneMost = h .noneMost;
+            noEdges = h .noEdges;
+            kept = K .onFace s a b c x y z m room (h .kept);
+          }
+
+      meets-oneFace : (n a b c x y z : ℕ) (m : Made) (s : State) → n < f → a < v → b < v → c < v → x < f → y < f → z < f → Begun f v n 0 s
+          → Meets (λ _ t. Begun f v (n + 1) 0 t) E (Rattle.polytope.specs.Polytope.pushFace r (threeN a b c) (threeN x y z) m s)
+      meets-oneFace n a b c x y z m s hn ha hb hc hx hy hz h =
+          meets-face E _ r _ _ m s
+          (λ full. end-begun v n 0 _ s hv (omega arith) (omega arith) h (omega (arith, h .madeAre, bound-zero f)))
+          (λ room. begun-face n a b c x y z m s ha hb hc hx hy hz room h)
+
+      begun-queue : (q : ℕ) (s : State) (e : Entry) → e .face < f → q < f → s .queue .count < r .heap → Begun f v f q s → Begun f v f (q + 1) (withQueue s (pushed (s .queue) e))
+      begun-queue q s e l lq room h =
+          let g = good-pushed f (s .queue .count) (s .queue) e l (h .queueIn) in
+          record {
+            vertsAre = h .vertsAre;
+            madeAre = h .madeAre;
+            adjIn = h .adjIn;
+            ptsIn = h .ptsIn;
+            liveFew = h .liveFew;
+            queueIn = record { counts = refl; each = rw (g .counts) (g .each) };
+            queueFew = omega (arith, g .counts, h .queueFew);
+            noneDone = h .noneDone;
+            noneMost = h .noneMost;
+            noEdges = h .noEdges;
+            kept = K .onQueue s e room (omega (arith, h .queueFew, h .madeAre)) (h .kept);
+          }
+
+      meets-oneKey : (q : ℕ) (tol key : Float) (i : ℕ) (s : State) → q < f → i < f → Begun f v f q s → Meets (λ _ t. Begun f v f (q + 1) t) E (Rattle.polytope.specs.Polytope.queueFace r keyAtStart tol i key s)
+      meets-oneKey q tol key i s lq li h =
+          meets-queue E _ r keyAtStart tol i key s
+          (end-begun v f q _ s hv (omega arith) (omega arith) h tt)
+          (λ full. end-begun v f q _ s hv (omega arith) (omega arith) h (omega (arith, h .queueFew, bound-zero f)))
+          (λ room. begun-queue q s _ li lq room h)
+
+      begun-more : (n q : ℕ) (s : State) → Begun f v n q s → Begun f v n (q + 1) s
+      begun-more n q s h = record { vertsAre = h .vertsAre; madeAre = h .madeAre; adjIn = h .adjIn; ptsIn = h .ptsIn; liveFew = h .liveFew; queueIn = h .queueIn; queueFew = omega (arith, h .queueFew); noneDone = h .noneDone; noneMost = h .noneMost; noEdges = h .noEdges; kept = h .kept }
+
+      meets-queueStart : (w : World) (q : ℕ) (tol : Float) (i : ℕ) (b : Bool) (s : State) → q < f → i < f → Begun f v f q s → Meets (λ _ t. Begun f v f (q + 1) t) E (queueStart w r tol i b s)
+      unfolding queueStart
+      meets-queueStart w q tol i b s lq li h =
+          meets-doIf E _ b _ s (λ _. meets-look E _ _ s (meets-oneKey q tol _ i s lq li h)) (λ _. begun-more f q s h)
+
+  -- two faces
+  meets-two : (w : World) (tol : Float) (v : ℕ) (s : State) → 2 ≤ v → v ≤ 3 → Begun 2 v 0 0 s → Meets (λ _ t. Ready J 2 0 t) (Ending J 2 r) (startTwo w r tol s)
+  unfolding startTwo twoFaces
+  meets-two w tol v s l2 l3 h =
+      let E = Ending J 2 r in
+      meets-look E _ _ s
+      (meets-then E (λ _ t. Begun 2 3 0 0 t) _ _ _ s
+      (meets-doIf E _ _ _ s
+      (λ e. let q : v ≡ 2 = omega (arith, h .vertsAre, eqb-true (s .verts .count) 2 e) in meets-third 2 w s (rw q at h))
+      (λ e. let q : v ≡ 3 = omega (arith, h .vertsAre, eqb-false (s .verts .count) 2 e) in rw q at h)) λ _ s1 h1.
+      meets-look E _ _ s1
+      (meets-then E (λ _ t. Begun 2 3 1 0 t) _ _ _ s1
+      (meets-oneFace 2 3 (omega arith) 0 0 1 2 1 1 1 _ s1 (omega arith) (omega arith) (omega arith) (omega arith) (omega arith) (omega arith) (omega arith) h1) λ _ s2 h2.
+      meets-then E (λ _ t. Begun 2 3 2 0 t) _ _ _ s2
+      (meets-oneFace 2 3 (omega arith) 1 0 2 1 0 0 0 _ s2 (omega arith) (omega arith) (omega arith) (omega arith) (omega arith) (omega arith) (omega arith) h2) λ _ s3 h3.
+      meets-then E (λ _ t. Begun 2 3 2 1 t) _ _ _ s3 (meets-oneKey 2 3 (omega arith) 0 tol _ 0 s3 (omega arith) (omega arith) h3) λ _ s4 h4.
+      meets-map E (λ _ t b. begun-ready 2 3 2 t (omega arith) (omega arith) (omega arith) b) (meets-oneKey 2 3 (omega arith) 1 tol _ 1 s4 (omega arith) (omega arith) h4)))
+
+  -- four faces
+  meets-fourFaces : (m1 m2 m3 m4 : Made) (s : State) → Begun 4 4 0 0 s → Meets (λ _ t. Begun 4 4 4 0 t) (Ending J 4 r) (fourFaces r m1 m2 m3 m4 s)
+  unfolding fourFaces
+  meets-fourFaces m1 m2 m3 m4 s0 h0 =
+      let E = Ending J 4 r in
+      let l0 : 0 < 4 = omega arith in
+      let l1 : 1 < 4 = omega arith in
+      let l2 : 2 < 4 = omega arith in
+      let l3 : 3 < 4 = omega arith in
+      meets-then E (λ _ t. Begun 4 4 1 0 t) _ _ _ s0 (meets-oneFace 4 4 (omega arith) 0 0 1 2 3 1 2 _ s0 l0 l0 l1 l2 l3 l1 l2 h0) λ _ s1 h1.
+      meets-then E (λ _ t. Begun 4 4 2 0 t) _ _ _ s1 (meets-oneFace 4 4 (omega arith) 1 1 3 2 3 2 0 _ s1 l1 l1 l3 l2 l3 l2 l0 h1) λ _ s2 h2.
+      meets-then E (λ _ t. Begun 4 4 3 0 t) _ _ _ s2 (meets-oneFace 4 4 (omega arith) 2 0 2 3 0 1 3 _ s2 l2 l0 l2 l3 l0 l1 l3 h2) λ _ s3 h3.
+      meets-oneFace 4 4 (omega arith) 3 0 3 1 2 1 0 _ s3 l3 l0 l3 l1 l2 l1 l0 h3
+
+  meets-queueFour : (w : World) (tol : Float) (a b c d : Bool) (s : State) → Begun 4 4 4 0 s → Meets (λ _ t. Ready J 4 0 t) (Ending J 4 r) (queueFour w r tol a b c d s)
+  unfolding queueFour
+  meets-queueFour w tol a b c d s4 h4 =
+      let E = Ending J 4 r in
+      meets-then E (λ _ t. Begun 4 4 4 1 t) _ _ _ s4 (meets-queueStart 4 4 (omega arith) w 0 tol 0 _ s4 (omega arith) (omega arith) h4) λ _ s5 h5.
+      meets-then E (λ _ t. Begun 4 4 4 2 t) _ _ _ s5 (meets-queueStart 4 4 (omega arith) w 1 tol 1 _ s5 (omega arith) (omega arith) h5) λ _ s6 h6.
+      meets-then E (λ _ t. Begun 4 4 4 3 t) _ _ _ s6 (meets-queueStart 4 4 (omega arith) w 2 tol 2 _ s6 (omega arith) (omega arith) h6) λ _ s7 h7.
+      meets-then E (λ _ t. Begun 4 4 4 4 t) _ _ _ s7 (meets-queueStart 4 4 (omega arith) w 3 tol 3 _ s7 (omega arith) (omega arith) h7) λ _ s8 h8.
+      meets-stopIf E _ _ _ s8
+      (λ _. end-begun 4 4 4 4 _ s8 (omega arith) (omega arith) (omega arith) h8 tt)
+      (λ _. begun-ready 4 4 4 s8 (omega arith) (omega arith) (omega arith) h8)
+
+  meets-four : (w : World) (tol : Float) (s : State) → Begun 4 4 0 0 s → Meets (λ _ t. Ready J 4 0 t) (Ending J 4 r) (startFour w r tol s)
+  unfolding startFour
+  meets-four w tol s h =
+      let E = Ending J 4 r in
+      meets-look E _ _ s
+      (meets-then E (λ _ t. Begun 4 4 0 0 t) _ _ _ s
+      (meets-doIf E _ _ _ s (λ _. meets-put E _ _ s (begun-exchanged s h)) (λ _. h)) λ _ s0 h0.
+      meets-look E _ _ s0
+      (meets-then E (λ _ t. Begun 4 4 4 0 t) _ _ _ s0 (meets-fourFaces _ _ _ _ s0 h0) λ _ s4 h4.
+      meets-queueFour w tol _ _ _ _ s4 h4))
+    where
+      begun-exchanged : (s : State) → Begun 4 4 0 0 s → Begun 4 4 0 0 (withExchange s)
+      begun-exchanged s h = record { vertsAre = h .vertsAre; madeAre = h .madeAre; adjIn = h .adjIn; ptsIn = h .ptsIn; liveFew = h .liveFew; queueIn = h .queueIn; queueFew = h .queueFew; noneDone = h .noneDone; noneMost = h .noneMost; noEdges = h .noEdges; kept = K .onExchange s (omega (arith, h .vertsAre)) (h .kept) }
+
+  -- ---- the whole run
+
+  begun : (f : ℕ) (s : State) → Empty s → J s → Begun f 0 0 0 s
+  unfolding liveTo
+  begun f s h j = record {
+    vertsAre = h .noVerts;
+    madeAre = h .noFaces;
+    adjIn = all-none _ _;
+    ptsIn = all-none _ _;
+    liveFew = omega arith;
+    queueIn = record { counts = refl; each = rw (h .noQueue) (all-none _ _) };
+    queueFew = omega (arith, h .noQueue);
+    noneDone = h .noDone;
+    noneMost = h .noMost;
+    noEdges = h .noEdges;
+    kept = j;
+  }
+
+  -- the vertices after the bootstrap
+  record Early (f d : ℕ) (s : State) : Type 0 where
+    verts : ℕ
+    begins : Begun f verts 0 0 s
+    four : d ≡ 3 → verts ≡ 4
+    two : (d ≡ 3 → ⊥) → (2 ≤ verts) × (verts ≤ 3)
+
+  module _ (w : World) (x : VoronoiSimplex) (small : x .dim ≤ 3) where
+    abbrev F : ℕ
+    F = facesAtStart x
+
+    meets-vertices : (s : State) → Empty s → J s → Meets (λ _ t. Early F (x .dim) t) (Ending J F r) (startVertices w r x s)
+    unfolding startVertices
+    meets-vertices s h j =
+        let d = x .dim in
+        let E = Ending J F r in
+        meets-then E (λ _ t. Begun F (d + 1) 0 0 t) _ _ _ s
+        (meets-map E (λ _ t b. rw native.Mathlib.Nat.zero-add at b) (meets-points F x (d + 1) 0 0 s (omega arith) (begun F s h j))) λ _ s1 h1.
+        meets-doIf E _ (eqb d 0) (bootstrap w r) s1
+        (λ e. let q : d ≡ 0 = eqb-true d 0 e in
+        let h1' : Begun F 1 0 0 s1 = subst (λ (n : ℕ). Begun F (n + 1) 0 0 s1) q h1 in
+        meets-map E (λ _ t b. record { verts = 2; begins = b; four = λ z. omega arith; two = λ z. (omega arith, omega arith) }) (meets-bootstrap F w s1 h1'))
+        (λ e. let q : d ≡ 0 → ⊥ = eqb-false d 0 e in record { verts = d + 1; begins = h1; four = λ z. omega arith; two = λ z. (omega arith, omega arith) })
+
+    meets-faces : (tol : Float) (s2 : State) → Early F (x .dim) s2 → Meets (λ _ t. Ready J F 0 t) (Ending J F r) (startFaces w r (x .dim) tol s2)
+    unfolding startFaces
+    meets-faces tol s2 h2 =
+        let d = x .dim in
+        let E = Ending J F r in
+        meets-branch E _ (eqb d 3) _ _ s2
+        (λ e. let q : d ≡ 3 = eqb-true d 3 e in
+        let b : Begun F 4 0 0 s2 = subst (λ (n : ℕ). Begun F n 0 0 s2) (h2 .four q) (h2 .begins) in
+        subst (λ (n : ℕ). Begun n 4 0 0 s2 → Meets (λ _ t. Ready J n 0 t) (Ending J n r) (startFour w r tol s2)) (sym (starts (eqb d 3) e)) (λ c. meets-four w _ s2 c) b)
+        (λ e. let q = h2 .two (eqb-false d 3 e) in
+        subst (λ (n : ℕ). Begun n (h2 .verts) 0 0 s2 → Meets (λ _ t. Ready J n 0 t) (Ending J n r) (startTwo w r tol s2)) (sym (starts-two (eqb d 3) e)) (λ c. meets-two w _ (h2 .verts) s2 (q .0) (q .1) c) (h2 .begins))
+
+    -- between two expansions
+    pub between-ready : (s : State) → Empty s → J s → (k : ℕ) (b : Best) (t : State) → Between w r x s k b t → Best-ready J r K F w k b t
+    between-ready s h j _ _ _ (started tol b t u e1 e2 l) =
+        let a : Early F (x .dim) t = (rw e1 at (meets-vertices s h j)) .held in
+        record { ready = (rw e2 at (meets-faces tol t a)) .held; bestIn = l }
+    between-ready s h j _ _ _ (expanded tol k b b1 o t u v q l e1 e2) =
+        let a = between-ready s h j k b t q in
+        let c : Ready J F k u × IsLive o u × (u .faces .count ≡ t .faces .count) = (rw e1 at (meets-popLive J r K F w k (t .queue .count) t refl (a .ready))) .held in
+        (rw e2 at (meets-turnIf J r K F w k tol b o u l (record { ready = c .0; bestIn = rw (c .2) (a .bestIn) }) (c .1))) .held
+
+  -- every run ends, within the sizes, and leaves what every move keeps
+  pub run-ends : (w : World) (x : VoronoiSimplex) (s : State) → Empty s → J s → Meets (λ _ t. ⊥) (Ending J (facesAtStart x) r) (epa w r x s)
+  unfolding epa expansions
+  run-ends w x s h j =
+      let f = facesAtStart x in
+      let E = Ending J f r in
+      meets-then E (λ _ t. Empty t × J t × (x .dim ≤ 3)) _ _ _ s
+      (meets-stopIf E _ (not (isSimplex x)) _ s
+      (λ _. end-begun f 0 0 0 _ s (omega arith) (omega arith) (omega arith) (begun f s h j) tt)
+      (λ e. (h, j, low-dimension x (not-false _ e)))) λ _ s1 h1.
+      meets-then E (λ _ t. Early f (x .dim) t) _ _ _ s1 (meets-vertices w x (h1 .2) s1 (h1 .0) (h1 .1)) λ _ s1' h1'.
+      meets-look E _ _ s1'
+      (meets-then E (λ _ t. Ready J f 0 t) _ _ _ s1' (meets-faces w x (h1 .2) _ s1' h1') λ _ s2 h2.
+      meets-look E _ _ s2
+      (meets-then E (λ _ t. Best-ready J r K f w 0 (record { face = Heap.entryAt (s2 .queue) 0 .face; bound = largest (w .format); last = zeroF }) t) _ _ _ s2
+      (meets-stopIf E _ _ _ s2
+      (λ _. (record { from = f; starting = with-all; turns = 0; atMost = omega arith; completed = omega (arith, h2 .completed); underWay = omega arith; within = h2 .within; tight = tt }, h2 .kept))
+      (λ e. record { ready = h2; bestIn = h2 .sound .queueIn .each .below 0 (nonzero (s2 .queue .count) (eqb-false _ _ e)) })) λ _ s3 h3.
+      meets-turns J r K f w 101 0 _ _ s3 (omega arith) h3))
+    where
+      nonzero : (n : ℕ) → (n ≡ 0 → ⊥) → 0 < n
+      nonzero n e = omega arith
+
+-- the fact that says nothing
+nothing-kept : (r : Rooms) → Keeps r (λ _. Unit {0})
+nothing-kept r = record {
+  onVertex = λ _ _ _ _. tt;
+  onExchange = λ _ _ _. tt;
+  onFace = λ _ _ _ _ _ _ _ _ _ _. tt;
+  onQueue = λ _ _ _ _ _. tt;
+  onPop = λ _ _ _ _. tt;
+  onDelete = λ _ _ _ _. tt;
+  onPass = λ _ _ _ _ _ _ _ _. tt;
+  onLink = λ _ _ _ _ _ _ _. tt;
+  onComplete = λ _ _. tt;
+}
+
 -- DEMAND 3: every run ends, within the sizes
 pub bounded : (w : World) (r : Rooms) (x : VoronoiSimplex) (s : State) → Empty s → Ends (facesAtStart x) r (epa w r x s)
-unfolding epa expansions
-bounded w r x s h = closing (epa w r x s) run
+bounded w r x s h = closing (epa w r x s) (run-ends (λ _. Unit {0}) r (nothing-kept r) w x s h tt)
   where
-    closing : (o : Out Nil) → Meets (λ _ t. ⊥) (Ended (facesAtStart x) r) o → Ends (facesAtStart x) r o
+    closing : (o : Out Nil) → Meets (λ _ t. ⊥) (Ending (λ _. Unit {0}) (facesAtStart x) r) o → Ends (facesAtStart x) r o
     closing (onward a t) m = m .held
-    closing (ended e t) m = m .held
+    closing (ended e t) m = m .held .0
 
-    nonzero : (n : ℕ) → (n ≡ 0 → ⊥) → 0 < n
-    nonzero n e = omega arith
+pub empty-fresh : (s : State) → Empty (fresh s)
+unfolding fresh
+empty-fresh s = record { noVerts = refl; noFaces = refl; noEdges = refl; noQueue = refl; noDone = refl; noMost = refl }
 
-    run : Meets (λ _ t. ⊥) (Ended (facesAtStart x) r) (epa w r x s)
-    run =
-        let f = facesAtStart x in
-        let E = Ended f r in
-        meets-then E (λ _ t. Empty t × (x .dim ≤ 3)) _ _ _ s
-        (meets-stopIf E _ (not (isSimplex x)) _ s
-        (λ _. end-begun f r 0 0 0 _ s (omega arith) (omega arith) (omega arith) (begun f s h) tt)
-        (λ e. (h, low-dimension x (not-false _ e)))) λ _ s1 h1.
-        meets-then E (λ _ t. Early f (x .dim) t) _ _ _ s1 (meets-vertices w r x (h1 .1) s1 (h1 .0)) λ _ s1' h1'.
-        meets-look E _ _ s1'
-        (meets-then E (λ _ t. Ready f 0 t) _ _ _ s1' (meets-faces w r x (h1 .1) _ s1' h1') λ _ s2 h2.
-        meets-look E _ _ s2
-        (meets-then E (λ _ t. Best-ready f w r 0 (record { face = Heap.entryAt (s2 .queue) 0 .face; bound = largest (w .format); last = zeroF }) t) _ _ _ s2
-        (meets-stopIf E _ _ _ s2
-        (λ _. record { from = f; starting = with-all; turns = 0; atMost = omega arith; completed = omega (arith, h2 .completed); underWay = omega arith; within = h2 .within; tight = tt })
-        (λ e. record { ready = h2; bestIn = h2 .sound .queueIn .each .below 0 (nonzero (s2 .queue .count) (eqb-false _ _ e)) })) λ _ s3 h3.
-        meets-turns f w r 101 0 _ _ s3 (omega arith) h3))
+-- WHAT EVERY MOVE KEEPS a run leaves, whatever way it ends, if it is so of the stores as lent
+pub run-keeps : (J : State → Type 0) (w : World) (x : VoronoiSimplex) (s : State) → Keeps (roomsOf s) J → J (fresh s) → (e : End) (t : State) → runEpa w x s ≡ ended e t → J t
+unfolding runEpa
+run-keeps J w x s K j e t q = (rw q at (run-ends J (roomsOf s) K w x (fresh s) (empty-fresh s) j)) .held .1
 
 -- so the run over lent stores ends, within the sizes
 pub demand-3 : (w : World) (x : VoronoiSimplex) (s : State) → Ends (facesAtStart x) (roomsOf s) (runEpa w x s)
-unfolding runEpa fresh
-demand-3 w x s = bounded w (roomsOf s) x (fresh s) (record { noVerts = refl; noFaces = refl; noQueue = refl; noDone = refl; noMost = refl })
+unfolding runEpa
+demand-3 w x s = bounded w (roomsOf s) x (fresh s) (empty-fresh s)
 
 start-most : (b : Bool) → cond b 4 2 ≤ 4
 start-most true = omega arith

@@ -77,25 +77,27 @@ module _ (E : End → State → Type 0) where
     meets-link i c j s h = meets-look Q _ s (meets-put _ s h)
 
   pub meets-face : (Q : Nil → State → Type 0) (r : Rooms) (ps ns : List ℕ) (m : Made) (s : State)
-      → (r .faces ≤ s .faces .count → E (noRoom theFaces) s) → Q tt (withFaces s (oneMore (s .faces) ps ns m)) → Meets Q E (pushFace r ps ns m s)
+      → (r .faces ≤ s .faces .count → E (noRoom theFaces) s) → (s .faces .count < r .faces → Q tt (withFaces s (oneMore (s .faces) ps ns m)))
+      → Meets Q E (pushFace r ps ns m s)
   unfolding pushFace
   meets-face Q r ps ns m s h k =
       meets-look Q _ s
-      (meets-then (λ _ t. s ≡ t) Q _ _ s
-      (meets-stopIf (λ _ t. s ≡ t) _ _ s (λ e. h (leb-true _ _ e)) (λ _. refl))
-      (λ _ t e. meets-put Q _ t k))
+      (meets-then (λ _ t. s .faces .count < r .faces) Q _ _ s
+      (meets-stopIf (λ _ t. s .faces .count < r .faces) _ _ s (λ e. h (leb-true _ _ e)) (λ e. leb-false _ _ e))
+      (λ _ t l. meets-put Q _ t (k l)))
 
   pub meets-queue : (Q : Nil → State → Type 0) (r : Rooms) (why : Lost) (tol : Float) (i : ℕ) (key : Float) (s : State)
-      → E (nothing why) s → (r .heap ≤ s .queue .count → E (noRoom theHeap) s) → Q tt (withQueue s (pushed (s .queue) (record { face = i; key = key })))
+      → E (nothing why) s → (r .heap ≤ s .queue .count → E (noRoom theHeap) s)
+      → (s .queue .count < r .heap → Q tt (withQueue s (pushed (s .queue) (record { face = i; key = key }))))
       → Meets Q E (queueFace r why tol i key s)
   unfolding queueFace
   meets-queue Q r why tol i key s g h k =
       meets-look Q _ s
       (meets-then (λ _ t. s ≡ t) Q _ _ s
       (meets-stopIf (λ _ t. s ≡ t) _ _ s (λ _. g) (λ _. refl))
-      (λ _ t e. meets-then (λ _ t. s ≡ t) Q _ _ t
-      (meets-stopIf (λ _ t. s ≡ t) _ _ t (λ o. subst (λ (x : State). E (noRoom theHeap) x) e (h (leb-true _ _ o))) (λ _. e))
-      (λ _ t' e'. meets-put Q _ t' k)))
+      (λ _ t e. meets-then (λ _ t. s .queue .count < r .heap) Q _ _ t
+      (meets-stopIf (λ _ t. s .queue .count < r .heap) _ _ t (λ o. subst (λ (x : State). E (noRoom theHeap) x) e (h (leb-true _ _ o))) (λ o. leb-false _ _ o))
+      (λ _ t' l. meets-put Q _ t' (k l))))
 
   pub meets-branch : {A : Type 0} (Q : A → State → Type 0) (b : Bool) (x y : Act A) (s : State)
       → (b ≡ true → Meets Q E (x s)) → (b ≡ false → Meets Q E (y s)) → Meets Q E (branch b x y s)
@@ -105,14 +107,14 @@ module _ (E : End → State → Type 0) where
 
   pub meets-vertex : (Q : Nil → State → Type 0) (r : Rooms) (v : Vertex) (s : State)
       → (r .vertices ≤ s .verts .count → E (noRoom theVerts) s)
-      → Q tt (withVerts s (record { cells = putVertex (s .verts .cells) (s .verts .count) v; count = s .verts .count + 1 }))
+      → (s .verts .count < r .vertices → Q tt (withVerts s (record { cells = putVertex (s .verts .cells) (s .verts .count) v; count = s .verts .count + 1 })))
       → Meets Q E (pushVertex r v s)
   unfolding pushVertex
   meets-vertex Q r v s h k =
       meets-look Q _ s
-      (meets-then (λ _ t. s ≡ t) Q _ _ s
-      (meets-stopIf (λ _ t. s ≡ t) _ _ s (λ e. h (leb-true _ _ e)) (λ _. refl))
-      (λ _ t e. meets-put Q _ t k))
+      (meets-then (λ _ t. s .verts .count < r .vertices) Q _ _ s
+      (meets-stopIf (λ _ t. s .verts .count < r .vertices) _ _ s (λ e. h (leb-true _ _ e)) (λ e. leb-false _ _ e))
+      (λ _ t l. meets-put Q _ t (k l)))
 
   pub meets-map : {A : Type 0} {P Q : A → State → Type 0} {o : Out A} → ((a : A) (s : State) → P a s → Q a s) → Meets P E o → Meets Q E o
   meets-map {A} {P = P} {Q = Q} {o = o} g h = by o h

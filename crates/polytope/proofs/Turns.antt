@@ -1,4 +1,4 @@
--- The expansions, one after another. Assumes nothing.
+-- The expansions, one after another: each keeps what every move keeps. Assumes nothing.
 use mathlib.Core.Path.{_≡_, refl, sym, ap, subst, _∙_}
 use mathlib.Core.Bool.{Bool, true, false, cond}
 use mathlib.Core.Option.{Option, none, some}
@@ -7,14 +7,16 @@ use native.Mathlib.Omega.{arith}
 use lib.ListN.{getD}
 use lib.Ieee.{Float, lt}
 use Rattle.vector.specs.Vector.{dotV}
+use Rattle.shape.specs.declared.vertex.Vertex.{Vertex}
 use borrow.Author.Tests.{eqb-true}
 use Rattle.heap.specs.Heap.{Heap, Entry, entryAt, popped}
-use Rattle.polytope.specs.Polytope.{World, State, Rooms, End, Found, Out, onward, ended, Act, _>>=_, _>>_, Nil, pure, look, put, withQueue, live, normalAt, answerOf, answer, popEntry, popLive, converged, stuck, heapEmpty, enoughTurns, Best, bettered, turn, turnIf, turns}
-use Rattle.polytope.specs.Bounds.{AllIn, Good, Sound, bound, Within, Tight, with-all, Ended, FromPoint}
+use Rattle.polytope.specs.Polytope.{World, State, Rooms, End, Found, Out, onward, ended, Act, _>>=_, _>>_, Nil, pure, look, put, withQueue, live, normalAt, answerOf, answer, popEntry, popLive, converged, stuck, heapEmpty, enoughTurns, Best, bettered, turn, advance, turnIf, turns}
+use Rattle.polytope.specs.Bounds.{AllIn, Good, Sound, bound, Within, Tight, with-all, FromPoint}
 use Rattle.polytope.proofs.Basics.{all-as}
 use Rattle.polytope.proofs.Sizes.{bound-suc}
 use Rattle.polytope.proofs.Heaps.{good-popped}
-use Rattle.polytope.proofs.Growth.{Ready, Stage, Turned, end-stage, end-answer, meets-expand}
+use Rattle.polytope.proofs.Growth.{Ready, Stage, Turned, Ending, end-stage, end-answer, meets-expand}
+use Rattle.polytope.proofs.Moves.{Keeps, withVertex}
 use Rattle.polytope.proofs.Steps.{Meets, goes, meets-bind, meets-then, meets-look, meets-pure, meets-stop, meets-doIf, meets-branch, meets-vertex, meets-map}
 
 -- an entry that was popped is of a live face
@@ -22,13 +24,13 @@ abbrev pub IsLive : Option Entry → State → Type 0
 IsLive none s = Unit {0}
 IsLive (some e) s = (e .face < s .faces .count) × (getD (s .faces .dead) (e .face) 1 ≡ 0)
 
-module _ (f : ℕ) (w : World) (r : Rooms) where
+module _ (J : State → Type 0) (r : Rooms) (K : Keeps r J) (f : ℕ) (w : World) where
   abbrev E : End → State → Type 0
-  E = Ended f r
+  E = Ending J f r
 
   -- ---- pop
 
-  popped-ready : (k n : ℕ) (s : State) → s .queue .count ≡ suc n → Ready f k s → Ready f k (withQueue s (popped (s .queue) n)) × (popped (s .queue) n .count ≡ n)
+  popped-ready : (k n : ℕ) (s : State) → s .queue .count ≡ suc n → Ready J f k s → Ready J f k (withQueue s (popped (s .queue) n)) × (popped (s .queue) n .count ≡ n)
   popped-ready k n s e h =
       let x = h .sound in
       let v = h .within in
@@ -38,18 +40,20 @@ module _ (f : ℕ) (w : World) (r : Rooms) where
           sound = record { some = x .some; adjIn = x .adjIn; ptsIn = x .ptsIn; queueIn = record { counts = refl; each = rw (g .counts) (g .each) }; queueFew = omega (arith, g .counts, x .queueFew) };
           within = record { fewVerts = v .fewVerts; fewLive = v .fewLive; fewMade = v .fewMade; fewEdges = v .fewEdges; fewQueued = omega (arith, g .counts, v .fewQueued) };
           completed = h .completed;
+          noEdges = h .noEdges;
+          kept = K .onPop s n e (h .kept);
         },
         g .counts,
       )
 
   abbrev Popped : ℕ → ℕ → Entry → State → Type 0
-  Popped k n e t = Ready f k t × (t .queue .count ≡ n) × (e .face < t .faces .count)
+  Popped k n e t = Ready J f k t × (t .queue .count ≡ n) × (e .face < t .faces .count)
 
-  meets-popEntry : (k n : ℕ) (s : State) → s .queue .count ≡ suc n → Ready f k s → Meets (λ e t. Popped k n e t × (t .faces .count ≡ s .faces .count)) E (popEntry n s)
+  meets-popEntry : (k n : ℕ) (s : State) → s .queue .count ≡ suc n → Ready J f k s → Meets (λ e t. Popped k n e t × (t .faces .count ≡ s .faces .count)) E (popEntry n s)
   unfolding popEntry _>>=_ _>>_ look put pure
   meets-popEntry k n s e h = let p = popped-ready k n s e h in goes ((p .0, p .1, h .sound .queueIn .each .below 0 (omega arith)), refl)
 
-  pub meets-popLive : (k n : ℕ) (s : State) → s .queue .count ≡ n → Ready f k s → Meets (λ o t. Ready f k t × IsLive o t × (t .faces .count ≡ s .faces .count)) E (popLive n s)
+  pub meets-popLive : (k n : ℕ) (s : State) → s .queue .count ≡ n → Ready J f k s → Meets (λ o t. Ready J f k t × IsLive o t × (t .faces .count ≡ s .faces .count)) E (popLive n s)
   unfolding popLive
   meets-popLive k zero s e h = meets-pure E _ none s (h, tt, refl)
   meets-popLive k (suc n) s e h =
@@ -60,9 +64,9 @@ module _ (f : ℕ) (w : World) (r : Rooms) where
 
   -- ---- a turn
 
-  turned : (k : ℕ) (s : State) (i : ℕ) (cells : _) → k ≤ 100 → Ready f k s → IsLive (some (record { face = i; key = lib.Ieee.nan })) s
-      → Turned f k (s .verts .count) i (Rattle.polytope.specs.Polytope.withVerts s (record { cells = cells; count = s .verts .count + 1 }))
-  turned k s i cells l h a =
+  turned : (k : ℕ) (s : State) (i : ℕ) (p : Vertex) → k ≤ 100 → Ready J f k s → IsLive (some (record { face = i; key = lib.Ieee.nan })) s → s .verts .count < r .vertices
+      → Turned J f k (s .verts .count) i (withVertex s p)
+  turned k s i p l h a room =
       let x = h .sound in
       let v = h .within in
       record {
@@ -71,12 +75,14 @@ module _ (f : ℕ) (w : World) (r : Rooms) where
           early = l;
           within = record { fewVerts = omega (arith, v .fewVerts); fewLive = omega (arith, v .fewLive); fewMade = omega (arith, v .fewMade, bound-suc f k); fewEdges = omega (arith, v .fewEdges); fewQueued = omega (arith, v .fewQueued, bound-suc f k) };
           pointIn = omega arith;
+          kept = K .onVertex s p room (h .kept);
         };
         sound = record { some = x .some; adjIn = x .adjIn; ptsIn = all-as _ (s .verts .count) _ _ _ (omega arith) (omega arith) (x .ptsIn); queueIn = x .queueIn; queueFew = x .queueFew };
         faceIn = a .0;
         faceLive = a .1;
         oldLive = v .fewLive;
         oldMade = v .fewMade;
+        noEdges = h .noEdges;
       }
 
   within-suc : (k : ℕ) (s : State) → Within f k s → Within f (suc k) s
@@ -92,40 +98,40 @@ module _ (f : ℕ) (w : World) (r : Rooms) where
 
   -- the best face is one that was made
   pub record Best-ready (k : ℕ) (b : Best) (s : State) : Type 0 where
-    pub ready : Ready f k s
+    pub ready : Ready J f k s
     pub bestIn : b .face < s .faces .count
 
   pub meets-turn : (k : ℕ) (tol : Float) (b : Best) (e : Entry) (s : State) → k ≤ 100 → Best-ready k b s → IsLive (some e) s
       → Meets (λ b1 t. Best-ready (suc k) b1 t) E (turn w r tol b e s)
-  unfolding turn
+  unfolding turn advance
   meets-turn k tol b e s l hb a =
       let h = hb .ready in
       let n = s .faces .count in
       let c = dotV (w .format) (w .supp (normalAt s (e .face)) .point) (normalAt s (e .face)) in
       meets-look E _ _ s
-      (meets-then E (λ _ t. Turned f k (s .verts .count) (e .face) t × (t .faces .count ≡ n)) _ _ _ s
+      (meets-then E (λ _ t. Turned J f k (s .verts .count) (e .face) t × (t .faces .count ≡ n)) _ _ _ s
       (meets-vertex E _ r _ s
-      (λ full. record { from = f; starting = with-all; turns = suc k; atMost = omega arith; completed = omega (arith, h .completed); underWay = omega (arith, h .completed); within = within-suc k s (h .within); tight = omega (arith, h .within .fewVerts) })
-      (turned k s (e .face) _ l h a, refl))
+      (λ full. (record { from = f; starting = with-all; turns = suc k; atMost = omega arith; completed = omega (arith, h .completed); underWay = omega (arith, h .completed); within = within-suc k s (h .within); tight = omega (arith, h .within .fewVerts) }, h .kept))
+      (λ room. (turned k s (e .face) _ l h a room, refl)))
       λ _ t u.
-      meets-then E (λ _ t. Turned f k (s .verts .count) (e .face) t × (t .faces .count ≡ n)) _ _ _ t
-      (meets-doIf E _ _ _ t (λ _. end-answer f w r k (record { face = e .face; dist = lib.Ieee.nan; point = s .verts .count; tol = tol }) _ converged tt _ t (u .0 .stage)) (λ _. u)) λ _ t1 u1.
-      meets-then E (λ _ t. Turned f k (s .verts .count) (e .face) t × (t .faces .count ≡ n)) _ _ _ t1
-      (meets-doIf E _ _ _ t1 (λ _. end-answer f w r k (record { face = e .face; dist = lib.Ieee.nan; point = s .verts .count; tol = tol }) _ stuck tt _ t1 (u1 .0 .stage)) (λ _. u1)) λ _ t2 u2.
-      meets-then E (λ _ t. Ready f (suc k) t × (t2 .faces .count ≤ t .faces .count)) _ _ _ t2
-      (meets-expand f w r k _ t2 (u2 .0)) λ _ t3 u3.
+      meets-then E (λ _ t. Turned J f k (s .verts .count) (e .face) t × (t .faces .count ≡ n)) _ _ _ t
+      (meets-doIf E _ _ _ t (λ _. end-answer J r K f w k (record { face = e .face; dist = lib.Ieee.nan; point = s .verts .count; tol = tol }) _ converged tt _ t (u .0 .stage)) (λ _. u)) λ _ t1 u1.
+      meets-then E (λ _ t. Turned J f k (s .verts .count) (e .face) t × (t .faces .count ≡ n)) _ _ _ t1
+      (meets-doIf E _ _ _ t1 (λ _. end-answer J r K f w k (record { face = e .face; dist = lib.Ieee.nan; point = s .verts .count; tol = tol }) _ stuck tt _ t1 (u1 .0 .stage)) (λ _. u1)) λ _ t2 u2.
+      meets-then E (λ _ t. Ready J f (suc k) t × (t2 .faces .count ≤ t .faces .count)) _ _ _ t2
+      (meets-expand J r K f w k _ t2 (u2 .0)) λ _ t3 u3.
       meets-pure E _ _ t3 (record { ready = u3 .0; bestIn = better-in b (e .face) (t3 .faces .count) c (omega (arith, hb .bestIn, u2 .1, u3 .1)) (omega (arith, a .0, u2 .1, u3 .1)) }))
 
   -- ---- all turns
 
-  end-ready : (k : ℕ) (e : End) (s : State) → k ≤ 101 → Ready f k s → Tight f k r e → E e s
-  end-ready k e s l h t = record { from = f; starting = with-all; turns = k; atMost = l; completed = omega (arith, h .completed); underWay = omega (arith, h .completed); within = h .within; tight = t }
+  end-ready : (k : ℕ) (e : End) (s : State) → k ≤ 101 → Ready J f k s → Tight f k r e → E e s
+  end-ready k e s l h t = (record { from = f; starting = with-all; turns = k; atMost = l; completed = omega (arith, h .completed); underWay = omega (arith, h .completed); within = h .within; tight = t }, h .kept)
 
-  answer-ready : {A : Type 0} (Q : A → State → Type 0) (k : ℕ) (why : Found) → FromPoint f why → (i : ℕ) (s : State) → k ≤ 101 → Ready f k s → Meets Q E (answer w why i s)
+  answer-ready : {A : Type 0} (Q : A → State → Type 0) (k : ℕ) (why : Found) → FromPoint f why → (i : ℕ) (s : State) → k ≤ 101 → Ready J f k s → Meets Q E (answer w why i s)
   unfolding answer answerOf
   answer-ready Q k why y i s l h = meets-look E Q _ s (meets-stop E Q _ s (end-ready k _ s l h y))
 
-  meets-turnIf : (k : ℕ) (tol : Float) (b : Best) (o : Option Entry) (s : State) → k ≤ 100 → Best-ready k b s → IsLive o s → Meets (λ b1 t. Best-ready (suc k) b1 t) E (turnIf w r tol b o s)
+  pub meets-turnIf : (k : ℕ) (tol : Float) (b : Best) (o : Option Entry) (s : State) → k ≤ 100 → Best-ready k b s → IsLive o s → Meets (λ b1 t. Best-ready (suc k) b1 t) E (turnIf w r tol b o s)
   meets-turnIf k tol b none s l h a = answer-ready _ k heapEmpty tt _ s (omega arith) (h .ready)
   meets-turnIf k tol b (some e) s l h a = meets-turn k tol b e s l h a
 
@@ -135,6 +141,6 @@ module _ (f : ℕ) (w : World) (r : Rooms) where
   meets-turns zero k tol b s l h = answer-ready _ k enoughTurns tt _ s (omega arith) (h .ready)
   meets-turns (suc n) k tol b s l h =
       meets-look E _ _ s
-      (meets-bind E (λ o t. Ready f k t × IsLive o t × (t .faces .count ≡ s .faces .count)) _ _ _ s (meets-popLive k (s .queue .count) s refl (h .ready)) λ o t p.
+      (meets-bind E (λ o t. Ready J f k t × IsLive o t × (t .faces .count ≡ s .faces .count)) _ _ _ s (meets-popLive k (s .queue .count) s refl (h .ready)) λ o t p.
       meets-bind E (λ b1 t. Best-ready (suc k) b1 t) _ _ _ t (meets-turnIf k tol b o t (omega arith) (record { ready = p .0; bestIn = rw (p .2) (h .bestIn) }) (p .1)) λ b1 t1 h1.
       meets-turns n (suc k) tol b1 t1 (omega arith) h1)

@@ -1,4 +1,4 @@
--- The laws of the walk: its depth suffices, and what it deletes and records. Assumes nothing.
+-- The laws of the walk: its depth suffices, what it deletes and records, and the places that it writes. Assumes nothing.
 use mathlib.Core.Path.{_≡_, refl, sym, ap, subst, _∙_}
 use mathlib.Core.Bool.{Bool, true, false}
 use mathlib.Core.List.{List, [], _∷_}
@@ -16,6 +16,8 @@ use Rattle.polytope.specs.declared.types.Question.{Question}
 use Rattle.polytope.proofs.Basics.{all-push, live-delete}
 use Rattle.polytope.proofs.Lists.{next-two}
 use Rattle.polytope.specs.Bounds.{AllIn}
+use Rattle.polytope.specs.Rule.{Untouched}
+use Rattle.polytope.proofs.Places.{stays, after, one-set}
 
 zeros-set : (d : List ℕ) (f : ℕ) → getD d f 1 ≡ 0 → zeros d ≡ suc (zeros (set d f 1))
 unfolding zeros
@@ -149,9 +151,32 @@ abbrev pub askedOf : ℕ → WalkAnswer → ℕ
 askedOf room (Done n) = n
 askedOf room NoRoom = suc room
 
+-- how many edges a walk has recorded: as many as there is room for, where it found none for one more
+abbrev pub recordedOf : ℕ → WalkAnswer → ℕ
+recordedOf room (Done n) = n
+recordedOf room NoRoom = room
+
 abbrev pub EdgesIn : ℕ → Edges → WalkAnswer → Type 0
 EdgesIn N e (Done n) = AllIn N n (e .faces) × AllIn 3 n (e .corners)
 EdgesIn N e NoRoom = Unit {0}
+
+-- from s to t, faces below N were deleted, and edges recorded at places below the number of those there are, for which there is room
+pub record Reached (N room : ℕ) (s t : Walked) : Type 0 where
+  pub more : recordedOf room (s .edged .answer) ≤ recordedOf room (t .edged .answer)
+  pub fits : recordedOf room (t .edged .answer) ≤ room
+  pub ofDead : Untouched N (t .dead) (s .dead)
+  pub ofFaces : Untouched (recordedOf room (t .edged .answer)) (t .edged .faces) (s .edged .faces)
+  pub ofCorners : Untouched (recordedOf room (t .edged .answer)) (t .edged .corners) (s .edged .corners)
+
+-- one walk after another
+reached-after : {N room : ℕ} {s t u : Walked} → Reached N room s t → Reached N room t u → Reached N room s u
+reached-after p q = record {
+  more = omega (arith, p .more, q .more);
+  fits = q .fits;
+  ofDead = after (omega arith) (q .ofDead) (p .ofDead);
+  ofFaces = after (q .more) (q .ofFaces) (p .ofFaces);
+  ofCorners = after (q .more) (q .ofCorners) (p .ofCorners);
+}
 
 module _ (m : Mesh) (N : ℕ) (h : AllIn N (N * 3) (m .adj)) where
   pass-asked : (q : Question) → Asked N q → Asked N (facing (m .pts) (m .adj) (q .face) ((q .corner + 2) % 3)) × Asked N (facing (m .pts) (m .adj) (q .face) (q .corner))
@@ -206,7 +231,44 @@ module _ (m : Mesh) (N : ℕ) (h : AllIn N (N * 3) (m .adj)) where
       q
       y
 
+  reached-noted : (s : Walked) (n f c : ℕ) → s .edged .answer ≡ Done n → recordedOf (m .room) (s .edged .answer) ≤ m .room
+      → Reached N (m .room) s (walked (s .dead) (noted (m .room) (s .edged .faces) (s .edged .corners) n f c))
+  reached-noted s n f c e l = by (ltb n (m .room)) refl
+    where
+      was : recordedOf (m .room) (s .edged .answer) ≡ n
+      was = rw e
+
+      by : (b : Bool) → ltb n (m .room) ≡ b → Reached N (m .room) s (walked (s .dead) (notedIf b (s .edged .faces) (s .edged .corners) n f c))
+      by true t = record {
+        more = omega (arith, was);
+        fits = omega (arith, ltb-true n (m .room) t);
+        ofDead = stays N (s .dead);
+        ofFaces = one-set (s .edged .faces) n f (n + 1) (omega arith);
+        ofCorners = one-set (s .edged .corners) n c (n + 1) (omega arith);
+      }
+      by false t = record { more = l; fits = omega arith; ofDead = stays N (s .dead); ofFaces = stays (m .room) (s .edged .faces); ofCorners = stays (m .room) (s .edged .corners) }
+
+  -- the places that a walk writes
+  reached : (s : Walked) (q : Question) → Asked N q → recordedOf (m .room) (s .edged .answer) ≤ m .room → Reached N (m .room) s (walkOf m s q)
+  reached s q y = walk-law m (Asked N) (λ s s'. recordedOf (m .room) (s .edged .answer) ≤ m .room → Reached N (m .room) s s')
+      pass-asked
+      (λ s l. record { more = omega arith; fits = l; ofDead = stays N (s .dead); ofFaces = stays _ (s .edged .faces); ofCorners = stays _ (s .edged .corners) })
+      (λ s n q y e l. reached-noted s n (q .face) (q .corner) e l)
+      (λ s s1 s2 q y z p1 p2 l. let r = reached-after (p1 l) (p2 (p1 l .fits)) in
+      record { more = r .more; fits = r .fits; ofDead = after (omega arith) (r .ofDead) (one-set (s .dead) (q .face) 1 N (y .faceIn)); ofFaces = r .ofFaces; ofCorners = r .ofCorners })
+      s
+      q
+      y
+
   module _ (s : Walked) (a b c : Question) (ya : Asked N a) (yb : Asked N b) (yc : Asked N c) where
+    -- the places that a pass writes
+    pub reached-pass : recordedOf (m .room) (s .edged .answer) ≤ m .room → Reached N (m .room) s (passOf m s a b c)
+    unfolding passOf
+    reached-pass l =
+        let r1 = reached s a ya l in
+        let r2 = reached (walkOf m s a) b yb (r1 .fits) in
+        reached-after r1 (reached-after r2 (reached (walkOf m (walkOf m s a) b) c yc (r2 .fits)))
+
     -- THE LAW of a pass: at most three edges more than faces deleted
     pub spent-pass : askedOf (m .room) (passOf m s a b c .edged .answer) + liveTo N (passOf m s a b c .dead) ≤ askedOf (m .room) (s .edged .answer) + liveTo N (s .dead) + 3
     unfolding passOf

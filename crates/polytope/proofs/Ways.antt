@@ -53,7 +53,7 @@ swap-count : (h : Heap) (i j : ℕ) → swap h i j .count ≡ h .count
 unfolding swap
 swap-count h i j = refl
 
-rise-count : (n : ℕ) (h : Heap) (i : ℕ) → riseIn n h i .count ≡ h .count
+pub rise-count : (n : ℕ) (h : Heap) (i : ℕ) → riseIn n h i .count ≡ h .count
 unfolding riseIn
 rise-count zero h i = refl
 rise-count (suc n) h zero = refl
@@ -81,7 +81,7 @@ abbrev Anything : {A : Type 0} → A → State → Type 0
 Anything a t = Unit {0}
 
 fills : (r : Rooms) (why : Lost) (tol : Float) (i : ℕ) (key : Float) (s : State) → Meets Filled Ever (queueFace r why tol i key s)
-fills r why tol i key s = meets-queue Ever _ r why tol i key s tt (λ _. tt) (omega (arith, pushed-count (s .queue) (record { face = i; key = key })))
+fills r why tol i key s = meets-queue Ever _ r why tol i key s tt (λ _. tt) (λ _. omega (arith, pushed-count (s .queue) (record { face = i; key = key })))
 
 one-of : (a b : Bool) → (a || b) ≡ true → (P : Type 0) → (a ≡ true → P) → (b ≡ true → P) → P
 one-of true b e P p q = p refl

@@ -3,10 +3,12 @@ use mathlib.Core.Path.{_≡_}
 use Prim.Native.Nat.{ℕ, suc, _+_, _*_, _<_, _≤_}
 use mathlib.Core.Bool.{Bool, cond}
 use mathlib.Core.List.{List}
+use mathlib.Core.Option.{Option}
 use lib.ListN.{getD}
 use lib.Dec.{eqb}
-use Rattle.heap.specs.Heap.{Heap}
-use Rattle.polytope.specs.Polytope.{State, Rooms, VoronoiSimplex, End, answers, nothing, panics, noRoom, Found, singlePoint, converged, stuck, newFaceNearer, enoughTurns, heapEmpty, Store, theVerts, theFaces, theEdges, theHeap, Out, onward, ended, Nil, live}
+use lib.Ieee.{Float}
+use Rattle.heap.specs.Heap.{Heap, Entry}
+use Rattle.polytope.specs.Polytope.{World, State, Rooms, Best, startVertices, startFaces, popLive, turnIf, VoronoiSimplex, End, answers, nothing, panics, noRoom, Found, singlePoint, converged, stuck, newFaceNearer, enoughTurns, heapEmpty, Store, theVerts, theFaces, theEdges, theHeap, Out, onward, ended, Nil, live}
 
 -- ---- the stores
 
@@ -26,6 +28,14 @@ pub record Sound (s : State) : Type 0 where
   pub ptsIn : AllIn (s .verts .count) (s .faces .count * 3) (s .faces .pts)
   pub queueIn : Good (s .faces .count) (s .queue .count) (s .queue)
   pub queueFew : s .queue .count ≤ s .faces .count
+
+-- the stores, and the best face, that k expansions leave from the stores s, by the steps of `turns`; the run's own are those where the tolerance and the first best
+-- face are the run's
+pub data Between (w : World) (r : Rooms) (x : VoronoiSimplex) (s : State) : ℕ → Best → State → Type 0 where
+  started : (tol : Float) (b : Best) (t u : State) → startVertices w r x s ≡ onward tt t → startFaces w r (x .dim) tol t ≡ onward tt u → b .face < u .faces .count
+      → Between w r x s 0 b u
+  expanded : (tol : Float) (k : ℕ) (b b1 : Best) (o : Option Entry) (t u v : State) → Between w r x s k b t → k ≤ 100 → popLive (t .queue .count) t ≡ onward o u
+      → turnIf w r tol b o u ≡ onward b1 v → Between w r x s (suc k) b1 v
 
 -- ---- the sizes
 

@@ -556,21 +556,30 @@ complete = do
     most = s .most;
   })
 
--- the polytope grows to the new vertex: the faces that it sees go, and new ones join it to the silhouette
-unfoldable pub expand : World → Rooms → Turn → Act Nil
-expand w r u = do
-  delete (u .face)
-  silhouette w r (u .point) (u .face)
+-- the ring of new faces, from the face `first` on, is closed, and the expansion is complete
+unfoldable pub closeRing : ℕ → Act Nil
+closeRing first = do
   s ← look
-  let first = s .faces .count
-  stopIf (eqb (s .edged .count) 0) (nothing noSilhouette)
-  growAll w r u (s .edged .count) 0
-  t ← look
-  let made = t .faces .count
+  let made = s .faces .count
   stopIf (eqb made first) (nothing allDeleted)
   link first 2 (made - 1)
   link (made - 1) 1 first
   complete
+
+-- new faces join the new vertex to the silhouette
+unfoldable pub regrow : World → Rooms → Turn → Act Nil
+regrow w r u = do
+  s ← look
+  stopIf (eqb (s .edged .count) 0) (nothing noSilhouette)
+  growAll w r u (s .edged .count) 0
+  closeRing (s .faces .count)
+
+-- the polytope grows to the new vertex: the faces that it sees go, and new ones come
+unfoldable pub expand : World → Rooms → Turn → Act Nil
+expand w r u = do
+  delete (u .face)
+  silhouette w r (u .point) (u .face)
+  regrow w r u
 
 -- the best face and bound after a candidate
 unfoldable pub bettered : Best → ℕ → Float → Best
@@ -584,22 +593,25 @@ hasConverged f bound dist = lt (_⊖_ f bound dist) (polytopeTol f)
 unfoldable pub isStuck : Format → Float → Float → Float → Float → Bool
 isStuck f dist last c bound = lt (absolute (_⊖_ f dist last)) (epsilon f) && lt c bound
 
--- a live face was popped: the run ends at the best face, or the polytope is expanded
+-- the candidate c is known, of a new vertex, the p-th: the run ends at the best face, or the polytope grows to that vertex
+unfoldable pub advance : World → Rooms → Float → Best → Entry → ℕ → Float → Act Best
+advance w r tol b e p c =
+    let k = w .format in
+    let b1 = bettered b (e .face) c in
+    let dist = neg (e .key) in do
+      doIf (hasConverged k (b1 .bound) dist) (answer w converged (b1 .face))
+      doIf (isStuck k dist (b .last) c (b1 .bound)) (answer w stuck (b1 .face))
+      expand w r (record { face = e .face; dist = dist; point = p; tol = tol })
+      pure (record { face = b1 .face; bound = b1 .bound; last = dist })
+
+-- a live face was popped: the vertex farthest along its normal is pushed
 unfoldable pub turn : World → Rooms → Float → Best → Entry → Act Best
 turn w r tol b e = do
   s ← look
-  let k = w .format
   let normal = normalAt s (e .face)
   let v = w .supp normal
-  let p = s .verts .count
   pushVertex r v
-  let c = dotV k (v .point) normal
-  let b1 = bettered b (e .face) c
-  let dist = neg (e .key)
-  doIf (hasConverged k (b1 .bound) dist) (answer w converged (b1 .face))
-  doIf (isStuck k dist (b .last) c (b1 .bound)) (answer w stuck (b1 .face))
-  expand w r (record { face = e .face; dist = dist; point = p; tol = tol })
-  pure (record { face = b1 .face; bound = b1 .bound; last = dist })
+  advance w r tol b e (s .verts .count) (dotV (w .format) (v .point) normal)
 
 abbrev pub turnIf : World → Rooms → Float → Best → Option Entry → Act Best
 turnIf w r tol b none = answer w heapEmpty (b .face)

@@ -1,0 +1,144 @@
+-- A new face, told of the lists and the answer that the code leaves. Assumes nothing.
+use mathlib.Core.Path.{_≡_, refl, sym, ap, subst, _∙_}
+use mathlib.Core.Bool.{true, false}
+use mathlib.Core.List.{List}
+use Prim.Native.Nat.{ℕ, _+_, _-_, _*_, _%_, _<_, _≤_, suc}
+use lib.ListN.{length, getD, set}
+use lib.Ieee.{Float, binary32}
+use borrow.Author.Tests.{lt-leb, le-leb, eq-eqb, ne-eqb}
+use native.Mathlib.Omega.{arith}
+use Rattle.vector.specs.declared.vec3.Vec3.{Vec3}
+use Rattle.shape.specs.declared.vertex.Vertex.{Vertex}
+use Rattle.polytope.specs.declared.types.Run.{Run}
+use Rattle.polytope.specs.declared.types.Rooms.{Rooms}
+use Rattle.polytope.specs.declared.types.Turn.{Turn}
+use Rattle.polytope.specs.declared.types.Made.{Made}
+use Rattle.polytope.specs.declared.types.End.the-variants.{NoRoom}
+use Rattle.polytope.specs.declared.types.Store.the-variants.{Faces as FaceStore}
+use Rattle.polytope.specs.declared.types.Step.{Step}
+use Rattle.polytope.specs.declared.types.Step.the-variants.{Onward, Ended}
+use Rattle.polytope.specs.Face.{faceNew}
+use Rattle.polytope.specs.Polytope.{Faces, Out, Nil, stateOf, withFaces, worldOf, vertexAt, threeN, oneMore, queueNew, link, pushFace, growAt, grow, growAll, ok, stepOut, stopIf, doIf, next, put, look, _>>=_, _>>_}
+use Rattle.polytope.proofs.Lists.{next-one, next-two}
+use Rattle.pushes.specs.Contracts.{facesOf, heapRoom}
+use Rattle.growth.specs.Contracts.{QueuesNew, GrowsAt, Grows, GrowsAll}
+
+module _ (rooms : Rooms) (run : Run) (u : Turn) (f c : ℕ) (v : List Float) (p a : List ℕ) (n : List Float) (d hf : List ℕ) (hk : List Float)
+    (x y : ℕ) (m : Made) (a1 : List ℕ)
+    (ix : x ≡ getD p (f * 3 + (c % 3 + 2) % 3) 0) (iy : y ≡ getD p (f * 3 + (c % 3 + 1) % 3) 0)
+    (im : m ≡ faceNew binary32 (vertexAt v x .point) (vertexAt v y .point) (vertexAt v (u .point) .point))
+    (il : a1 ≡ set a (f * 3 + (c % 3 + 1) % 3) (run .faces)) where
+  pub grow-refused : rooms .faces ≤ run .faces → GrowsAt rooms run u f c v p a n d hf hk p a1 n d hf hk (Ended (NoRoom FaceStore) run)
+  unfolding growAt link pushFace _>>=_ _>>_ look put stopIf
+  grow-refused l supp ef ec = rw (il, next-one c, le-leb (rooms .faces) (run .faces) l)
+
+  abbrev x0 : ℕ
+  x0 = getD p (f * 3 + (c + 2) % 3) 0
+
+  abbrev y0 : ℕ
+  y0 = getD p (f * 3 + (c + 1) % 3) 0
+
+  abbrev m0 : Made
+  m0 = faceNew binary32 (vertexAt v x0 .point) (vertexAt v y0 .point) (vertexAt v (u .point) .point)
+
+  abbrev more : List ℕ → ℕ → ℕ → Made → Faces
+  more l i j k = oneMore (facesOf p l n d (run .faces)) (threeN i j (u .point)) (threeN f (run .faces + 1) (run .faces - 1)) k
+
+  made-is : m ≡ m0
+  made-is =
+      let ex : x ≡ x0 = ix ∙ ap (λ (k : ℕ). getD p (f * 3 + k) 0) (next-two c) in
+      let ey : y ≡ y0 = iy ∙ ap (λ (k : ℕ). getD p (f * 3 + k) 0) (next-one c) in
+      im ∙ rw (ex, ey)
+
+  more-is : more a1 x y m ≡ more (set a (f * 3 + (c + 1) % 3) (run .faces)) x0 y0 m0
+  more-is =
+      let ex : x ≡ x0 = ix ∙ ap (λ (k : ℕ). getD p (f * 3 + k) 0) (next-two c) in
+      let ey : y ≡ y0 = iy ∙ ap (λ (k : ℕ). getD p (f * 3 + k) 0) (next-one c) in
+      let el : a1 ≡ set a (f * 3 + (c + 1) % 3) (run .faces) = il ∙ ap (λ (k : ℕ). set a (f * 3 + k) (run .faces)) (next-one c) in
+      rw (el, made-is, ex, ey)
+
+  abbrev oneFace : Run
+  oneFace = record { vertices = run .vertices; faces = run .faces + 1; edges = run .edges; heap = run .heap; done = run .done; most = run .most }
+
+  module _ (p' a' : List ℕ) (n' : List Float) (d' : List ℕ) (free : run .faces < rooms .faces) (e : facesOf p' a' n' d' (run .faces + 1) ≡ more a1 x y m) where
+    grown-to : (supp : _) (ef ec : List ℕ) → growAt (worldOf binary32 supp) (heapRoom rooms hf hk) u f c (stateOf v p a n d ef ec hf hk run) ≡ doIf (m .holds) (queueNew (worldOf binary32 supp) (heapRoom rooms hf hk) u (run .faces)) (stateOf v p' a' n' d' ef ec hf hk oneFace)
+    unfolding growAt link pushFace _>>=_ _>>_ look put stopIf
+    grown-to supp ef ec =
+        rw (lt-leb (rooms .faces) (run .faces) free)
+        (ap (λ (k : Faces). doIf (m0 .holds) (queueNew (worldOf binary32 supp) (heapRoom rooms hf hk) u (run .faces)) (withFaces (stateOf v p a n d ef ec hf hk run) k)) (sym (e ∙ more-is))
+        ∙ ap (λ (k : Made). doIf (k .holds) (queueNew (worldOf binary32 supp) (heapRoom rooms hf hk) u (run .faces)) (stateOf v p' a' n' d' ef ec hf hk oneFace)) (sym made-is))
+
+    pub grow-plain : m .holds ≡ false → GrowsAt rooms run u f c v p a n d hf hk p' a' n' d' hf hk (Onward oneFace)
+    unfolding doIf
+    grow-plain h supp ef ec = rw (grown-to supp ef ec, h)
+
+    pub grow-queued : (hf' : List ℕ) (hk' : List Float) (r : Step) → m .holds ≡ true → QueuesNew rooms oneFace u (run .faces) v p' n' hf hk hf' hk' r → GrowsAt rooms run u f c v p a n d hf hk p' a' n' d' hf' hk' r
+    unfolding doIf
+    grow-queued hf' hk' r h q supp ef ec = rw (grown-to supp ef ec, h) (q supp a' d' ef ec)
+
+-- an edge's face is live, or not
+module _ (rooms : Rooms) (run : Run) (u : Turn) (i : ℕ) (v : List Float) (ef ec p a : List ℕ) (n : List Float) (d hf : List ℕ) (hk : List Float) where
+  pub grow-dead : (f k : ℕ) → f ≡ getD ef i 0 → k ≡ getD d f 1 → (k ≡ 0 → ⊥) → Grows rooms run u i v ef ec p a n d hf hk p a n d hf hk (Onward run)
+  unfolding grow doIf _>>=_ look
+  grow-dead f k e e1 z supp = rw (ne-eqb (getD d (getD ef i 0) 1) 0 (λ o. z (e1 ∙ ap (λ (j : ℕ). getD d j 1) e ∙ o)))
+
+  pub grow-live : (f c k : ℕ) (p' a' : List ℕ) (n' : List Float) (d' hf' : List ℕ) (hk' : List Float) (r : Step) → f ≡ getD ef i 0 → c ≡ getD ec i 0 → k ≡ getD d f 1 → k ≡ 0
+      → GrowsAt rooms run u f c v p a n d hf hk p' a' n' d' hf' hk' r → Grows rooms run u i v ef ec p a n d hf hk p' a' n' d' hf' hk' r
+  unfolding grow doIf _>>=_ look
+  grow-live f c k p' a' n' d' hf' hk' r e ecc e1 z g supp =
+      let live : getD d (getD ef i 0) 1 ≡ 0 = sym (e1 ∙ ap (λ (j : ℕ). getD d j 1) e) ∙ z in
+      rw (eq-eqb (getD d (getD ef i 0) 1) 0 live, ← e, ← ecc) (g supp ef ec)
+
+-- ---- all edges: the loop's invariant, and its turns
+
+pub record GrowLoop (rooms : Rooms) (u : Turn) (all : ℕ) (v : List Float) (ef ec p0 a0 : List ℕ) (n0 : List Float) (d0 hf0 : List ℕ) (hk0 : List Float) (run0 : Run)
+    (p a : List ℕ) (n : List Float) (d hf : List ℕ) (hk : List Float) (run : Run) (i : ℕ) : Type 0 where
+  pub within : i ≤ all
+  pub samePts : length p ≡ length p0
+  pub sameAdj : length a ≡ length a0
+  pub sameNums : length n ≡ length n0
+  pub sameDead : length d ≡ length d0
+  pub sameFaces : length hf ≡ length hf0
+  pub sameKeys : length hk ≡ length hk0
+  pub goesOn : (supp : Vec3 → Vertex) → growAll (worldOf binary32 supp) (heapRoom rooms hf0 hk0) u (all - i) i (stateOf v p a n d ef ec hf hk run) ≡ growAll (worldOf binary32 supp) (heapRoom rooms hf0 hk0) u all 0 (stateOf v p0 a0 n0 d0 ef ec hf0 hk0 run0)
+
+module _ (rooms : Rooms) (u : Turn) (all : ℕ) (v : List Float) (ef ec p0 a0 : List ℕ) (n0 : List Float) (d0 hf0 : List ℕ) (hk0 : List Float) (run0 : Run) where
+  pub loop-starts : GrowLoop rooms u all v ef ec p0 a0 n0 d0 hf0 hk0 run0 p0 a0 n0 d0 hf0 hk0 run0 0
+  loop-starts = record { within = omega arith; samePts = refl; sameAdj = refl; sameNums = refl; sameDead = refl; sameFaces = refl; sameKeys = refl; goesOn = λ supp. let e : all - 0 ≡ all = omega arith in rw e }
+
+  module _ (p a : List ℕ) (n : List Float) (d hf : List ℕ) (hk : List Float) (run : Run) (i : ℕ) (h : GrowLoop rooms u all v ef ec p0 a0 n0 d0 hf0 hk0 run0 p a n d hf hk run i) where
+    -- the heap's room is what it was
+    one-room : heapRoom rooms hf hk ≡ heapRoom rooms hf0 hk0
+    one-room = rw (h .sameFaces, h .sameKeys)
+
+    module _ (p' a' : List ℕ) (n' : List Float) (d' hf' : List ℕ) (hk' : List Float) (r : Step) (more : i < all) (g : Grows rooms run u i v ef ec p a n d hf hk p' a' n' d' hf' hk' r) where
+      one-turn : (supp : Vec3 → Vertex) → next (stepOut (λ x. stateOf v p' a' n' d' ef ec hf' hk' x) r) (λ _. growAll (worldOf binary32 supp) (heapRoom rooms hf0 hk0) u (all - (i + 1)) (i + 1)) ≡ growAll (worldOf binary32 supp) (heapRoom rooms hf0 hk0) u all 0 (stateOf v p0 a0 n0 d0 ef ec hf0 hk0 run0)
+      unfolding growAll _>>_
+      one-turn supp =
+          let e : all - i ≡ suc (all - (i + 1)) = omega arith in
+          let k = subst (λ (j : ℕ). growAll (worldOf binary32 supp) (heapRoom rooms hf0 hk0) u j i (stateOf v p a n d ef ec hf hk run) ≡ growAll (worldOf binary32 supp) (heapRoom rooms hf0 hk0) u all 0 (stateOf v p0 a0 n0 d0 ef ec hf0 hk0 run0)) e (h .goesOn supp) in
+          let g1 = subst (λ (x : Rooms). stepOut (λ c. stateOf v p' a' n' d' ef ec hf' hk' c) r ≡ grow (worldOf binary32 supp) x u i (stateOf v p a n d ef ec hf hk run)) one-room (g supp) in
+          ap (λ (o : Out Nil). next o (λ _. growAll (worldOf binary32 supp) (heapRoom rooms hf0 hk0) u (all - (i + 1)) (i + 1))) g1 ∙ k
+
+      pub loop-turns : (x : Run) → r ≡ Onward x → length p' ≡ length p → length a' ≡ length a → length n' ≡ length n → length d' ≡ length d → length hf' ≡ length hf → length hk' ≡ length hk
+          → GrowLoop rooms u all v ef ec p0 a0 n0 d0 hf0 hk0 run0 p' a' n' d' hf' hk' x (i + 1)
+      loop-turns x t kp ka kn kd kf kk = record {
+        within = omega arith;
+        samePts = kp ∙ h .samePts;
+        sameAdj = ka ∙ h .sameAdj;
+        sameNums = kn ∙ h .sameNums;
+        sameDead = kd ∙ h .sameDead;
+        sameFaces = kf ∙ h .sameFaces;
+        sameKeys = kk ∙ h .sameKeys;
+        goesOn = λ supp. subst (λ (s : Step). next (stepOut (λ x. stateOf v p' a' n' d' ef ec hf' hk' x) s) (λ _. growAll (worldOf binary32 supp) (heapRoom rooms hf0 hk0) u (all - (i + 1)) (i + 1)) ≡ growAll (worldOf binary32 supp) (heapRoom rooms hf0 hk0) u all 0 (stateOf v p0 a0 n0 d0 ef ec hf0 hk0 run0)) t (one-turn supp);
+      }
+
+      pub loop-ends : (e : _) (x : Run) → r ≡ Ended e x → GrowsAll rooms run0 u all 0 v ef ec p0 a0 n0 d0 hf0 hk0 p' a' n' d' hf' hk' r
+      loop-ends e x t supp =
+          rw t (subst (λ (s : Step). next (stepOut (λ x. stateOf v p' a' n' d' ef ec hf' hk' x) s) (λ _. growAll (worldOf binary32 supp) (heapRoom rooms hf0 hk0) u (all - (i + 1)) (i + 1)) ≡ growAll (worldOf binary32 supp) (heapRoom rooms hf0 hk0) u all 0 (stateOf v p0 a0 n0 d0 ef ec hf0 hk0 run0)) t (one-turn supp))
+
+    pub loop-done : all ≤ i → GrowsAll rooms run0 u all 0 v ef ec p0 a0 n0 d0 hf0 hk0 p a n d hf hk (Onward run)
+    unfolding growAll ok
+    loop-done l supp =
+        let e : all - i ≡ 0 = omega arith in
+        subst (λ (j : ℕ). growAll (worldOf binary32 supp) (heapRoom rooms hf0 hk0) u j i (stateOf v p a n d ef ec hf hk run) ≡ growAll (worldOf binary32 supp) (heapRoom rooms hf0 hk0) u all 0 (stateOf v p0 a0 n0 d0 ef ec hf0 hk0 run0)) e (h .goesOn supp)

@@ -1,0 +1,87 @@
+-- The lines of output (document 01, "Case file and vote"), as lists of bytes. Definitions only.
+use Prim.Native.Nat.{ℕ}
+use mathlib.Core.List.{List, [], _∷_, _++_}
+use lib.Ieee.{Float, binary32, toBits}
+use Rattle.vector.specs.declared.vec3.Vec3.{Vec3}
+use Rattle.lines.specs.Text.{hexOf, decimalOf}
+use Rattle.lines.specs.declared.line.Counts.{Counts}
+use Rattle.lines.specs.declared.line.Outcome.{Outcome}
+use Rattle.lines.specs.declared.line.Outcome.the-variants.{ClosestPoints, Proximity, NoIntersection, Penetration, NoAnswer, Panic, NoPlace}
+
+-- ---- parts, each with a space before it
+
+-- a float, by its bits; `toBits` gives every NaN as 7FC00000
+unfoldable pub floatText : Float → List ℕ
+floatText x = 32 ∷ hexOf (toBits binary32 x)
+
+unfoldable pub vectorText : Vec3 → List ℕ
+vectorText v = floatText (v .x) ++ floatText (v .y) ++ floatText (v .z)
+
+unfoldable pub threeText : Vec3 → Vec3 → Vec3 → List ℕ
+threeText a b c = vectorText a ++ vectorText b ++ vectorText c
+
+unfoldable pub countText : ℕ → List ℕ
+countText n = 32 ∷ decimalOf n
+
+unfoldable pub countsText : Counts → List ℕ
+countsText c = countText (c .expansions) ++ countText (c .made) ++ countText (c .live) ++ countText (c .edges)
+
+-- ---- by the outcome
+
+-- D M S P N X R
+abbrev pub letterOf : Outcome → ℕ
+letterOf (ClosestPoints a b n) = 68
+letterOf (Proximity v) = 77
+letterOf (NoIntersection v) = 83
+letterOf (Penetration a b n c) = 80
+letterOf (NoAnswer c) = 78
+letterOf Panic = 88
+letterOf (NoPlace c) = 82
+
+-- nine floats, three, or none
+unfoldable pub floatsOf : Outcome → List ℕ
+floatsOf (ClosestPoints a b n) = threeText a b n
+floatsOf (Proximity v) = vectorText v
+floatsOf (NoIntersection v) = vectorText v
+floatsOf (Penetration a b n c) = threeText a b n
+floatsOf (NoAnswer c) = []
+floatsOf Panic = []
+floatsOf (NoPlace c) = []
+
+-- the four counts end the lines of P, N and R
+unfoldable pub countsOf : Outcome → List ℕ
+countsOf (ClosestPoints a b n) = []
+countsOf (Proximity v) = []
+countsOf (NoIntersection v) = []
+countsOf (Penetration a b n c) = countsText c
+countsOf (NoAnswer c) = countsText c
+countsOf Panic = []
+countsOf (NoPlace c) = countsText c
+
+-- document 01's number of each case: 0 for an answer, and 1, 2 and 3 for the refusals
+abbrev pub outcomeNumber : Outcome → ℕ
+outcomeNumber (ClosestPoints a b n) = 0
+outcomeNumber (Proximity v) = 0
+outcomeNumber (NoIntersection v) = 0
+outcomeNumber (Penetration a b n c) = 0
+outcomeNumber (NoAnswer c) = 1
+outcomeNumber Panic = 2
+outcomeNumber (NoPlace c) = 3
+
+-- ---- lines
+
+-- a record's: its number from 1, the letter, floats and counts
+unfoldable pub lineOf : ℕ → Outcome → List ℕ
+lineOf number o = decimalOf number ++ 32 ∷ [] ++ letterOf o ∷ [] ++ floatsOf o ++ countsOf o ++ 10 ∷ []
+
+-- `separation 1`
+unfoldable pub firstLine : List ℕ
+firstLine = 115 ∷ 101 ∷ 112 ∷ 97 ∷ 114 ∷ 97 ∷ 116 ∷ 105 ∷ 111 ∷ 110 ∷ 32 ∷ 49 ∷ 10 ∷ []
+
+-- `bad`, and an offset
+unfoldable pub badLine : ℕ → List ℕ
+badLine offset = 98 ∷ 97 ∷ 100 ∷ 32 ∷ [] ++ decimalOf offset ++ 10 ∷ []
+
+-- `cases`, and how many records were finished
+unfoldable pub lastLine : ℕ → List ℕ
+lastLine n = 99 ∷ 97 ∷ 115 ∷ 101 ∷ 115 ∷ 32 ∷ [] ++ decimalOf n ++ 10 ∷ []

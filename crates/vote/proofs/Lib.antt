@@ -1,0 +1,2 @@
+-- Laws of the vote.
+pub mod Laws

@@ -1,0 +1,66 @@
+// The vote of three channels: two answers out of three that agree. What each function returns is the definition
+// of the same name in specs/Vote.antt, which carries the scope document's rule.
+ghost use mathlib.Core.Path.{_≡_};
+ghost use Rattle.vote.specs.Vote.{agree, sameCounts, voteOf};
+use vector::Vec3;
+
+// The counts of a run: expansions completed, faces made, faces live at the end, most edges in one pass.
+pub struct Counts {
+    pub expansions: usize,
+    pub made: usize,
+    pub live: usize,
+    pub edges: usize,
+}
+
+// What a channel answers. Floats and counts that the outcome hasn't got are zero.
+pub struct Answer {
+    // the place of its letter in D M S P N X R
+    pub outcome: u8,
+    pub point1: Vec3,
+    pub point2: Vec3,
+    pub normal: Vec3,
+    pub counts: Counts,
+}
+
+pub enum Verdict {
+    // The answer of two channels that agree, and the number of the odd one, 0 where there is none.
+    Agreed { answer: Answer, odd: usize },
+    // Refusal 5: no two agree.
+    Refused,
+}
+
+fn same_counts(a: Counts, b: Counts) -> bool
+    ensures { λ r. ⌜ r ≡ sameCounts a b ⌝ }
+{
+    (a.expansions == b.expansions) & (a.made == b.made) & (a.live == b.live) & (a.edges == b.edges)
+}
+
+// Whether outcome and counts are the same and each float compares equal: a NaN never does, and -0 equals 0.
+pub fn agree(a: Answer, b: Answer) -> bool
+    ensures { λ r. ⌜ r ≡ agree a b ⌝ }
+{
+    let p = a.point1;
+    let q = a.point2;
+    let n = a.normal;
+    let floats = p.equals(b.point1) & q.equals(b.point2) & n.equals(b.normal);
+    (a.outcome == b.outcome) & same_counts(a.counts, b.counts) & floats
+}
+
+// The answers of channels 1, 2 and 3: the first of 1 and 2, 1 and 3, 2 and 3 that agree decides.
+pub fn vote(a: Answer, b: Answer, c: Answer) -> Verdict
+    ensures { λ r. ⌜ r ≡ voteOf a b c ⌝ }
+{
+    let first_last = agree(a, c);
+    if agree(a, b) {
+        let odd = if first_last { 0 } else { 3 };
+        return Verdict::Agreed { answer: a, odd };
+    }
+    if first_last {
+        return Verdict::Agreed { answer: a, odd: 2 };
+    }
+    if agree(b, c) {
+        Verdict::Agreed { answer: b, odd: 1 }
+    } else {
+        Verdict::Refused
+    }
+}
