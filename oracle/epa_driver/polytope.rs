@@ -251,7 +251,7 @@ fn port(case: &Case, s: &mut Stores) -> Told {
     }
 }
 
-/// Half the runs start from where GJK ended, half from any simplex; half have plenty of room.
+/// Seven runs in ten start from where GJK ended, if the shapes meet, the others from any simplex; half have plenty of room.
 fn case(n: &mut Numbers) -> Case {
     let (raw1, raw2) = (raw_shape(n), raw_shape(n));
     let mut pose = n.pose();

@@ -9,8 +9,10 @@ use Rattle.simplex.specs.Simplex.{overwriteIn, placeIn}
 use Rattle.simplex.specs.Reduction.{tetrahedronFace, applyTetrahedron}
 use Rattle.heap.specs.Heap.{pushed, popped, settled, rise, riseIn, sink, sinkIn, greater, swap}
 use Rattle.heap.specs.Order.{orderOf, pushAll, popAll}
+use Rattle.pushes.specs.Contracts.{faceIdNew}
+use Rattle.casefile.specs.Numbers.{encode, encodeIn, decodeNumber, firstOf, laterIn}
 use Rattle.known.specs.Known.{All, table}
 
 pub known : All table
-unfolding root ofBits toBits neg add sub mul lt le round zeroV subV dotV singlePoint vertexWithPoint differences dots onVertex vertexRegion _orElse_ orSolid projectTetrahedron overwriteIn placeIn tetrahedronFace applyTetrahedron pushed popped settled rise riseIn sink sinkIn greater swap orderOf pushAll popAll
-known = (refl, (refl, (refl, (refl, (refl, (refl, (refl, (refl, ((refl, refl), tt)))))))))
+unfolding root ofBits toBits neg add sub mul lt le round zeroV subV dotV singlePoint vertexWithPoint differences dots onVertex vertexRegion _orElse_ orSolid projectTetrahedron overwriteIn placeIn tetrahedronFace applyTetrahedron pushed popped settled rise riseIn sink sinkIn greater swap orderOf pushAll popAll faceIdNew encode encodeIn decodeNumber firstOf laterIn
+known = (refl, (refl, (refl, (refl, (refl, (refl, (refl, (refl, ((refl, refl), (λ i. refl, (λ i. refl, (λ i. refl, ((refl, refl), ((refl, refl), (refl, tt)))))))))))))))

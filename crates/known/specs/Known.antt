@@ -4,7 +4,7 @@ use mathlib.Core.Bool.{false}
 use mathlib.Core.List.{List, [], _∷_}
 use Prim.Native.Nat.{ℕ}
 use lib.IntN.{pos, negsuc}
-use lib.ListN.{take, replicate}
+use lib.ListN.{length, take, replicate}
 use lib.Ieee.{Float, fin, binary32, ofBits, toBits}
 use Rattle.number.specs.Root.{root}
 use Rattle.vector.specs.declared.vec3.Vec3.{Vec3}
@@ -20,6 +20,10 @@ use Rattle.simplex.specs.declared.simplex.VoronoiSimplex.{VoronoiSimplex}
 use Rattle.simplex.specs.Simplex.{simplexOf}
 use Rattle.simplex.specs.Reduction.{applyTetrahedron}
 use Rattle.heap.specs.Order.{orderOf}
+use Rattle.pushes.specs.declared.types.MaybeFaceId.the-variants.{Some, None}
+use Rattle.pushes.specs.Contracts.{faceIdNew}
+use Rattle.casefile.specs.declared.numbers.NumberAnswer.the-variants.{Read, Bad}
+use Rattle.casefile.specs.Numbers.{encode, decodeNumber}
 
 -- a row of the table
 pub data Case : Type 0 where
@@ -27,6 +31,10 @@ pub data Case : Type 0 where
   equalKeys : ℕ → List ℕ → Case  -- so many equal keys, pushed as faces 0, 1, .., and the order in which they pop
   projects : Tetrahedron → TetrahedronProjection → Case  -- the origin on a tetrahedron
   faceAcd : List Float → List Float → Case  -- the weights of face acd, and those that the reduction leaves with a, d, c
+  accepts : ℕ → ℕ → Case  -- the bits of a tolerance, and of a key that any face is accepted with
+  refuses : ℕ → ℕ → Case  -- the bits of a tolerance, and of a key that any face is refused with
+  travels : Float → List ℕ → Case  -- a number, and its bytes in a case file
+  malformed : List ℕ → Case  -- bytes that begin no number
 
 -- a tetrahedron's simplex: four vertices that differ
 abbrev pub cornerAt : ℕ → Vertex
@@ -50,12 +58,19 @@ Holds (equalKeys n order) = orderOf (replicate n oneF) ≡ order
 Holds (projects t p) = projectTetrahedron binary32 t zeroV ≡ p
 Holds (faceAcd given left) =
     (take 3 (reducedTo given .vertices) ≡ cornerAt 0 ∷ cornerAt 3 ∷ cornerAt 2 ∷ []) × (reducedTo given .proj ≡ left)
+Holds (accepts tol key) = (i : ℕ) → faceIdNew i (ofBits binary32 key) (ofBits binary32 tol) ≡ Some (record { id = i; «neg_dist» = ofBits binary32 key })
+Holds (refuses tol key) = (i : ℕ) → faceIdNew i (ofBits binary32 key) (ofBits binary32 tol) ≡ None
+Holds (travels x bytes) = (encode (toBits binary32 x) ≡ bytes) × (decodeNumber bytes 0 ≡ Read (toBits binary32 x) (length bytes))
+Holds (malformed bytes) = decodeNumber bytes 0 ≡ Bad
 
 abbrev pub All : List Case → Type 0
 All [] = Unit {0}
 All (c ∷ cs) = Holds c × All cs
 
--- the literals 0.5, 0.375 and 0.125
+-- the literals 3.0, 0.5, 0.375 and 0.125
+abbrev threeF : Float
+threeF = fin false 3 (pos 0)
+
 abbrev half : Float
 half = fin false 1 (negsuc 0)
 
@@ -65,6 +80,7 @@ threeEighths = fin false 3 (negsuc 2)
 abbrev eighth : Float
 eighth = fin false 1 (negsuc 2)
 
+-- The tolerance of the rows on keys is `eps_tol`, 5 · 2^-22, the least that a run has; 35A00001 is the next f32 above it, and 7FC00000 a NaN.
 abbrev pub table : List Case
 table =
     rootOf 0x00000002 0x1A800000
@@ -76,4 +92,10 @@ table =
     ∷ equalKeys 3 (0 ∷ 1 ∷ 2 ∷ [])
     ∷ projects (record { a = vec3 oneF oneF oneF; b = vec3 twoF oneF oneF; c = vec3 oneF twoF oneF; d = vec3 oneF oneF twoF }) (At (vec3 oneF oneF oneF) (OnVertex 0))
     ∷ faceAcd (half ∷ threeEighths ∷ eighth ∷ []) (half ∷ eighth ∷ threeEighths ∷ [])
+    ∷ accepts 0x35A00000 0x35A00000
+    ∷ refuses 0x35A00000 0x35A00001
+    ∷ accepts 0x35A00000 0x7FC00000
+    ∷ travels oneF (0x80 ∷ 0x80 ∷ 0x80 ∷ 0xFC ∷ 0x03 ∷ [])
+    ∷ travels threeF (0x80 ∷ 0x80 ∷ 0x80 ∷ 0x82 ∷ 0x04 ∷ [])
+    ∷ malformed (0x81 ∷ 0x00 ∷ [])
     ∷ []

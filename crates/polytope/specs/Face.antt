@@ -12,7 +12,7 @@ use Rattle.projection.specs.Triangle.{projectTriangle, barycentricCoordinates}
 use Rattle.projection.specs.Inside.{withinOrigin}
 use Rattle.polytope.specs.declared.types.Made.{Made}
 
--- `barycentric_coordinates().unwrap()`. It never panics: `projectTriangle` answers no corner above 2 and no edge above 2. Solid has zeros.
+-- `barycentric_coordinates().unwrap()`. It never panics (`never-unwraps-none` of the crate `projection`). Solid has zeros.
 unfoldable pub weightsOr : BarycentricCoordinates → Vec3
 weightsOr (Weights.Some u v w) = vec3 u v w
 weightsOr Weights.None = zeroV

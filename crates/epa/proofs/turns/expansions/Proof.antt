@@ -1,4 +1,5 @@
 -- `expansions` does what the run's `expansions` does. Assumes nothing.
+use native.Mathlib.Omega.{arith}
 use borrow.Author.Needs.{needs}
 use lib.Ieee.{ofBits}
 use Rattle.epa.proofs.Turning.{nothing-queued, from-first}
@@ -9,7 +10,7 @@ returns : tie.Need-returns
 returns c = let a = c .before .before .before .before .before .before .before .before .before .before .before .args in nothing-queued (a .pos12) (a .g1) (a .g2) (a .rooms) (a .run) (a .tol) (a .vertices .now) (a .pts .now) (a .adj .now) (a .nums .now) (a .dead .now) (a .edge-face .now) (a .edge-corner .now) (a .heap-face .now) (a .heap-key .now) (c .if1 .taken)
 
 turns-requires : tie.Need-turns-requires
-turns-requires c κs = c .before .before .before .before .before .before .before .before .before .before .before .before .before .before .before .before .before .before .before .before .before .before .before .pre
+turns-requires c κs = record { entriesIn = c .before .before .before .before .before .before .before .before .before .before .before .before .before .before .before .before .before .before .before .before .before .before .before .pre .entriesIn; expansionsLeft = omega (arith, c .before .before .before .before .before .before .before .before .before .before .before .before .before .before .before .before .before .before .before .before .before .before .before .pre .expansionsLeft) }
 
 returns-2 : tie.Need-returns-2
 unfolding ofBits
