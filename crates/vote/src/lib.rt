@@ -5,6 +5,7 @@ ghost use Rattle.vote.specs.Vote.{agree, sameCounts, voteOf};
 use vector::Vec3;
 
 // The counts of a run: expansions completed, faces made, faces live at the end, most edges in one pass.
+#[repr(C)]
 pub struct Counts {
     pub expansions: usize,
     pub made: usize,
@@ -13,6 +14,7 @@ pub struct Counts {
 }
 
 // What a channel answers. Floats and counts that the outcome hasn't got are zero.
+#[repr(C)]
 pub struct Answer {
     // the place of its letter in D M S P N X R
     pub outcome: u8,

@@ -1,0 +1,159 @@
+//! The separation channel and the vote in Rust, over libembedding.a (`rt staticlib embedding`). Nothing is allocated
+//! and nothing kept. The contracts are in crates/embedding; include/separation.h says what each field holds.
+
+#[repr(C)]
+#[derive(Copy, Clone, Debug, Default, PartialEq)]
+pub struct Vector {
+    pub x: f32,
+    pub y: f32,
+    pub z: f32,
+}
+
+/// A rotation (quaternion x, y, z, w), then a translation.
+#[repr(C)]
+#[derive(Copy, Clone, Debug, PartialEq)]
+pub struct Pose {
+    pub rotation: [f32; 4],
+    pub translation: Vector,
+}
+
+#[derive(Copy, Clone, Debug, PartialEq)]
+pub enum Shape {
+    Ball { radius: f32 },
+    Cuboid { half_extents: Vector },
+    Capsule { a: Vector, b: Vector, radius: f32 },
+    Triangle { a: Vector, b: Vector, c: Vector },
+}
+
+/// Expansions completed, faces made, faces live at the end, most edges in one pass.
+#[repr(C)]
+#[derive(Copy, Clone, Debug, Default, PartialEq)]
+pub struct Counts {
+    pub expansions: usize,
+    pub made: usize,
+    pub live: usize,
+    pub edges: usize,
+}
+
+/// What a channel answers: `outcome` is the place of its letter in D M S P N X R.
+#[repr(C)]
+#[derive(Copy, Clone, Debug, Default, PartialEq)]
+pub struct Answer {
+    pub outcome: u8,
+    pub point1: Vector,
+    pub point2: Vector,
+    pub normal: Vector,
+    pub counts: Counts,
+}
+
+/// `number` is 0, or 5 where no two answers agree; `odd` is the channel that differs, or 0.
+#[repr(C)]
+#[derive(Copy, Clone, Debug, PartialEq)]
+pub struct Voted {
+    pub number: u32,
+    pub odd: usize,
+    pub answer: Answer,
+}
+
+/// The stores that a run borrows. A store of several slices is as long as the fewest whole records that one holds.
+pub struct Stores<'a> {
+    pub vertices: &'a mut [f32],
+    pub pts: &'a mut [usize],
+    pub adj: &'a mut [usize],
+    pub nums: &'a mut [f32],
+    pub dead: &'a mut [u8],
+    pub edge_face: &'a mut [usize],
+    pub edge_corner: &'a mut [usize],
+    pub heap_face: &'a mut [usize],
+    pub heap_key: &'a mut [f32],
+}
+
+#[repr(C)]
+struct ShapeRecord {
+    kind: u32,
+    p: Vector,
+    q: Vector,
+    r: Vector,
+}
+
+impl From<Shape> for ShapeRecord {
+    fn from(shape: Shape) -> Self {
+        let zero = Vector::default();
+        let along_x = |x| Vector { x, ..zero };
+        let (kind, p, q, r) = match shape {
+            Shape::Ball { radius } => (0, along_x(radius), zero, zero),
+            Shape::Cuboid { half_extents } => (1, half_extents, zero, zero),
+            Shape::Capsule { a, b, radius } => (2, a, b, along_x(radius)),
+            Shape::Triangle { a, b, c } => (3, a, b, c),
+        };
+        Self { kind, p, q, r }
+    }
+}
+
+unsafe extern "C" {
+    fn separation_run(
+        pos12: Pose,
+        g1: ShapeRecord,
+        g2: ShapeRecord,
+        dir: Vector,
+        max_dist: f32,
+        exact: bool,
+        vertices: *mut f32,
+        vertices_length: usize,
+        pts: *mut usize,
+        pts_length: usize,
+        adj: *mut usize,
+        adj_length: usize,
+        nums: *mut f32,
+        nums_length: usize,
+        dead: *mut u8,
+        dead_length: usize,
+        edge_face: *mut usize,
+        edge_face_length: usize,
+        edge_corner: *mut usize,
+        edge_corner_length: usize,
+        heap_face: *mut usize,
+        heap_face_length: usize,
+        heap_key: *mut f32,
+        heap_key_length: usize,
+    ) -> Answer;
+    safe fn separation_vote(a: Answer, b: Answer, c: Answer) -> Voted;
+}
+
+/// How far `g2`, in the pose `pos12` in the frame of `g1`, is from `g1`, or how deep they meet.
+pub fn run(pos12: Pose, g1: Shape, g2: Shape, dir: Vector, max_dist: f32, exact: bool, s: &mut Stores) -> Answer {
+    // SAFETY: the slices are lent for the call, each with its own length, and are kept by nobody.
+    unsafe {
+        separation_run(
+            pos12,
+            g1.into(),
+            g2.into(),
+            dir,
+            max_dist,
+            exact,
+            s.vertices.as_mut_ptr(),
+            s.vertices.len(),
+            s.pts.as_mut_ptr(),
+            s.pts.len(),
+            s.adj.as_mut_ptr(),
+            s.adj.len(),
+            s.nums.as_mut_ptr(),
+            s.nums.len(),
+            s.dead.as_mut_ptr(),
+            s.dead.len(),
+            s.edge_face.as_mut_ptr(),
+            s.edge_face.len(),
+            s.edge_corner.as_mut_ptr(),
+            s.edge_corner.len(),
+            s.heap_face.as_mut_ptr(),
+            s.heap_face.len(),
+            s.heap_key.as_mut_ptr(),
+            s.heap_key.len(),
+        )
+    }
+}
+
+/// Two out of three.
+pub fn vote(a: Answer, b: Answer, c: Answer) -> Voted {
+    separation_vote(a, b, c)
+}

@@ -1,0 +1,52 @@
+-- A turn's answer, output and stores, by what reading the record found: a whole record (`whole`), a malformed number (`malformed`), or the end of the bytes (`cut`).
+-- By rewriting with what the callees answered. Assumes nothing.
+use mathlib.Core.Path.{_≡_, sym, ap, _∙_}
+use mathlib.Core.List.{List}
+use Prim.Native.Nat.{ℕ}
+use lib.ListN.{length}
+use lib.Ieee.{Float}
+use Rattle.casefile.specs.declared.records.Case.{Case}
+use Rattle.casefile.specs.declared.records.CaseAnswer.{CaseAnswer}
+use Rattle.casefile.specs.Records.{readCase}
+use Rattle.lines.specs.declared.line.Outcome.{Outcome}
+use Rattle.lines.specs.declared.text.Placed.{Placed}
+use Rattle.lines.specs.Text.{after, placeOf}
+use Rattle.lines.specs.Lines.{lineOf, badLine}
+use Rattle.epa.specs.Final.{finalBy, answered}
+use Rattle.stream.specs.declared.Turn.{Turn}
+use Rattle.stream.specs.Stream.{Told, told, offsetOf, caseOutcome, lineTurn, badTurn, lineTold, badTold, turnBy, turnOf}
+
+module _ (s : List ℕ) (at base number : ℕ) (o : List ℕ) (place : ℕ) (v : List Float) (p a : List ℕ) (n : List Float) (d ef ec hf : List ℕ) (hk : List Float) (found : CaseAnswer) (read : found ≡ readCase s at) where
+  by-found : (f : CaseAnswer) → found ≡ f → turnBy f s base number o place v p a n d ef ec hf hk ≡ turnOf s at base number o place v p a n d ef ec hf hk
+  unfolding turnOf
+  by-found f is = ap (λ (t : CaseAnswer). turnBy t s base number o place v p a n d ef ec hf hk) (sym is ∙ read)
+
+  pub whole : (c : Case) (next : ℕ) → found ≡ CaseAnswer.Whole c next
+      → (v' : List Float) (p' a' : List ℕ) (n' : List Float) (d' ef' ec' hf' : List ℕ) (hk' : List Float) (x : Outcome)
+      → finalBy x v' p' a' n' d' ef' ec' hf' hk' ≡ caseOutcome c v p a n d ef ec hf hk
+      → (o' : List ℕ) (w : Placed) → after o' w ≡ placeOf o place (lineOf number x) → (r : Turn) → r ≡ lineTurn next w
+      → finalBy (told r o') v' p' a' n' d' ef' ec' hf' hk' ≡ turnOf s at base number o place v p a n d ef ec hf hk
+  whole c next is v' p' a' n' d' ef' ec' hf' hk' x e o' w written r turned =
+      ap (λ (t : Told). finalBy t v' p' a' n' d' ef' ec' hf' hk') (ap (λ (t : Turn). told t o') turned ∙ ap (lineTold next) written)
+      ∙ ap (answered (λ (y : Outcome). lineTold next (placeOf o place (lineOf number y)))) e
+      ∙ by-found (CaseAnswer.Whole c next) is
+
+  bad : (offset : ℕ) (o' : List ℕ) (w : Placed) → after o' w ≡ placeOf o place (badLine offset) → (r : Turn) → r ≡ badTurn w
+      → finalBy (told r o') v p a n d ef ec hf hk ≡ finalBy (badTold (placeOf o place (badLine offset))) v p a n d ef ec hf hk
+  bad offset o' w written r turned = ap (λ (t : Told). finalBy t v p a n d ef ec hf hk) (ap (λ (t : Turn). told t o') turned ∙ ap badTold written)
+
+  pub malformed : (b : ℕ) → found ≡ CaseAnswer.Malformed b → (offset : ℕ) → offset ≡ offsetOf base b
+      → (o' : List ℕ) (w : Placed) → after o' w ≡ placeOf o place (badLine offset) → (r : Turn) → r ≡ badTurn w
+      → finalBy (told r o') v p a n d ef ec hf hk ≡ turnOf s at base number o place v p a n d ef ec hf hk
+  malformed b is offset place-is o' w written r turned =
+      bad offset o' w written r turned
+      ∙ ap (λ (t : ℕ). finalBy (badTold (placeOf o place (badLine t))) v p a n d ef ec hf hk) place-is
+      ∙ by-found (CaseAnswer.Malformed b) is
+
+  pub cut : found ≡ CaseAnswer.Ended → (offset : ℕ) → offset ≡ offsetOf base (length s)
+      → (o' : List ℕ) (w : Placed) → after o' w ≡ placeOf o place (badLine offset) → (r : Turn) → r ≡ badTurn w
+      → finalBy (told r o') v p a n d ef ec hf hk ≡ turnOf s at base number o place v p a n d ef ec hf hk
+  cut is offset place-is o' w written r turned =
+      bad offset o' w written r turned
+      ∙ ap (λ (t : ℕ). finalBy (badTold (placeOf o place (badLine t))) v p a n d ef ec hf hk) place-is
+      ∙ by-found CaseAnswer.Ended is

@@ -1,0 +1,78 @@
+-- One turn of a program that reads a case file through a window: the record at a place of the window, and the line that goes out for it (document 01, "Case file and vote"). Definitions only.
+use mathlib.Core.List.{List}
+use Prim.Native.Nat.{ℕ, _+_, _-_, _^_, _%_}
+use mathlib.Core.Bool.{cond}
+use lib.Dec.{ltb, leb}
+use lib.ListN.{length, take, drop}
+use lib.Seq.{sets}
+use lib.Ieee.{Float}
+use Rattle.casefile.specs.declared.records.Case.{Case}
+use Rattle.casefile.specs.declared.records.CaseAnswer.{CaseAnswer}
+use Rattle.casefile.specs.Records.{readCase}
+use Rattle.lines.specs.declared.line.Outcome.{Outcome}
+use Rattle.lines.specs.declared.text.Placed.{Placed}
+use Rattle.lines.specs.declared.text.Placed.the-variants as Place
+use Rattle.lines.specs.Text.{After, placeOf}
+use Rattle.lines.specs.Lines.{lineOf, badLine}
+use Rattle.epa.specs.Final.{Final, finalBy, answered}
+use Rattle.channel.specs.Channel.{separated}
+use Rattle.stream.specs.declared.Turn.{Turn}
+use Rattle.stream.specs.declared.Turn.the-variants as Turn
+use Rattle.stream.specs.declared.Window.{Window}
+
+-- ---- the window
+
+-- where a place of the window stands in the file: no file has 2 ^ 64 bytes
+abbrev pub offsetOf : ℕ → ℕ → ℕ
+offsetOf base p = (base + p) % 2 ^ 64
+
+-- the bytes that are not read yet
+abbrev pub restOf : ℕ → ℕ → ℕ
+restOf at end = cond (leb at end) (end - at) 0
+
+-- the window once those bytes stand at the start of the buffer
+abbrev pub movedOf : Window → Window
+movedOf w = record { base = offsetOf (w .base) (w .from); from = 0; until = restOf (w .from) (w .until); ended = w .ended }
+
+-- those bytes at the start of the buffer, where the window lies in it
+unfoldable pub frontOf : List ℕ → ℕ → ℕ → List ℕ
+frontOf s at end = cond (ltb (length s) end) s (cond (ltb end at) s (sets s 0 (take (end - at) (drop at s))))
+
+-- ---- a record
+
+abbrev pub caseOutcome : Case → List Float → List ℕ → List ℕ → List Float → List ℕ → List ℕ → List ℕ → List ℕ → List Float → Final Outcome
+caseOutcome c v p a n d ef ec hf hk = separated (c .pos12) (c .g1) (c .g2) (c .dir) (c .«max_dist») (c .exact) v p a n d ef ec hf hk
+
+-- what a turn answers, and the output that it leaves
+pub record Told : Type 0 where
+  pub turn : Turn
+  pub out : List ℕ
+
+abbrev pub told : Turn → List ℕ → Told
+told t o = record { turn = t; out = o }
+
+-- of a line that was written, or had no room: with the place of the next record, or none
+abbrev pub lineTurn : ℕ → Placed → Turn
+lineTurn next (Place.Next k) = Turn.Line next k
+lineTurn next Place.NoRoom = Turn.NoRoom
+
+abbrev pub badTurn : Placed → Turn
+badTurn (Place.Next k) = Turn.Stopped k
+badTurn Place.NoRoom = Turn.NoRoom
+
+abbrev pub lineTold : ℕ → After → Told
+lineTold next x = told (lineTurn next (x .answer)) (x .bytes)
+
+abbrev pub badTold : After → Told
+badTold x = told (badTurn (x .answer)) (x .bytes)
+
+-- a record's line; in its place the offset of a malformed number, or of the window's end where it ends inside the record
+abbrev pub turnBy : CaseAnswer → List ℕ → ℕ → ℕ → List ℕ → ℕ → List Float → List ℕ → List ℕ → List Float → List ℕ → List ℕ → List ℕ → List ℕ → List Float → Final Told
+turnBy (CaseAnswer.Whole c next) s base number o place v p a n d ef ec hf hk =
+    answered (λ (x : Outcome). lineTold next (placeOf o place (lineOf number x))) (caseOutcome c v p a n d ef ec hf hk)
+turnBy (CaseAnswer.Malformed b) s base number o place v p a n d ef ec hf hk = finalBy (badTold (placeOf o place (badLine (offsetOf base b)))) v p a n d ef ec hf hk
+turnBy CaseAnswer.Ended s base number o place v p a n d ef ec hf hk = finalBy (badTold (placeOf o place (badLine (offsetOf base (length s))))) v p a n d ef ec hf hk
+
+-- the window's bytes, the record's place in them, where the window stands in the file, the record's number, and the output from a place on
+unfoldable pub turnOf : List ℕ → ℕ → ℕ → ℕ → List ℕ → ℕ → List Float → List ℕ → List ℕ → List Float → List ℕ → List ℕ → List ℕ → List ℕ → List Float → Final Told
+turnOf s at base number o place v p a n d ef ec hf hk = turnBy (readCase s at) s base number o place v p a n d ef ec hf hk

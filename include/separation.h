@@ -1,0 +1,86 @@
+/* The separation channel and the vote, from libembedding.a (rt staticlib embedding).
+ *
+ * A call allocates nothing and keeps nothing: it works on what it is lent. Every call ends, on any numbers and
+ * any lengths. Its contract is in crates/embedding. */
+#ifndef SEPARATION_H
+#define SEPARATION_H
+
+#include <stdbool.h>
+#include <stddef.h>
+#include <stdint.h>
+
+typedef struct {
+    float x, y, z;
+} separation_vector;
+
+/* A rotation (quaternion x, y, z, w), then a translation. */
+typedef struct {
+    float x, y, z, w;
+    separation_vector translation;
+} separation_pose;
+
+enum separation_kind {
+    SEPARATION_BALL = 0,     /* radius in p.x */
+    SEPARATION_CUBOID = 1,   /* half extents in p */
+    SEPARATION_CAPSULE = 2,  /* ends in p and q, radius in r.x */
+    SEPARATION_TRIANGLE = 3, /* corners in p, q and r */
+};
+
+typedef struct {
+    uint32_t kind;
+    separation_vector p, q, r;
+} separation_shape;
+
+enum separation_outcome {
+    SEPARATION_CLOSEST_POINTS = 0,  /* D: two points, and the direction between them as normal */
+    SEPARATION_PROXIMITY = 1,       /* M: the direction as normal */
+    SEPARATION_NO_INTERSECTION = 2, /* S: the direction as normal */
+    SEPARATION_PENETRATION = 3,     /* P: two points and the normal, and the counts of the run */
+    SEPARATION_NO_ANSWER = 4,       /* N: refusal 1, with counts */
+    SEPARATION_PANIC = 5,           /* X: refusal 2 */
+    SEPARATION_NO_ROOM = 6,         /* R: refusal 3, with counts */
+    SEPARATION_MALFORMED = 7,       /* refusal 4: a kind of shape above 3; no channel answers it */
+};
+
+/* The counts of a run: expansions completed, faces made, faces live at the end, most edges in one pass. */
+typedef struct {
+    size_t expansions, made, live, edges;
+} separation_counts;
+
+/* What the outcome hasn't got is zero. */
+typedef struct {
+    uint8_t outcome;
+    separation_vector point1, point2, normal;
+    separation_counts counts;
+} separation_answer;
+
+/* number: 0, or 5 where no two answers agree. odd: the number of the channel that differs, or 0. */
+typedef struct {
+    uint32_t number;
+    size_t odd;
+    separation_answer answer;
+} separation_voted;
+
+/* How far shape g2, in the pose pos12 in the frame of g1, is from g1, or how deep they meet.
+ *
+ * Four stores are lent, each slice as a pointer and its length. A store of several slices is as long as the fewest
+ * whole records that one of them holds. 105 vertices, 10,710 faces, 206 edges and 10,710 heap entries are never refused.
+ *   vertices: nine numbers each          faces: three in pts, three in adj, six in nums, one in dead
+ *   edges: one in each of two slices     heap entries: one in each of two slices */
+separation_answer separation_run(
+    separation_pose pos12, separation_shape g1, separation_shape g2,
+    separation_vector dir, float max_dist, bool exact,
+    float *vertices, size_t vertices_length,
+    size_t *pts, size_t pts_length,
+    size_t *adj, size_t adj_length,
+    float *nums, size_t nums_length,
+    uint8_t *dead, size_t dead_length,
+    size_t *edge_face, size_t edge_face_length,
+    size_t *edge_corner, size_t edge_corner_length,
+    size_t *heap_face, size_t heap_face_length,
+    float *heap_key, size_t heap_key_length);
+
+/* Two out of three. */
+separation_voted separation_vote(separation_answer a, separation_answer b, separation_answer c);
+
+#endif
