@@ -51,9 +51,7 @@ fn shape_of(g: ShapeRecord) -> MaybeShape
         return MaybeShape::Some(Shape::Capsule(p.x, p.y, p.z, q.x, q.y, q.z, r.x));
     }
     if kind == 3 {
-        return MaybeShape::Some(Shape::Triangle(
-            p.x, p.y, p.z, q.x, q.y, q.z, r.x, r.y, r.z,
-        ));
+        return MaybeShape::Some(Shape::Triangle(p.x, p.y, p.z, q.x, q.y, q.z, r.x, r.y, r.z));
     }
     MaybeShape::None
 }

@@ -14,7 +14,7 @@ returns-2 : tie.Need-returns-2
 returns-2 c = rw (sym (c .before .before .before .before .before .before .before .shape-of .ensures) ∙ c .before .before .before .before .before .first .given .1, sym (c .before .before .before .shape-of2 .ensures) ∙ c .before .enum-told2 .given .1, c .malformed-answer2 .ensures)
 
 returns-3 : tie.Need-returns-3
-returns-3 c = 
+returns-3 c =
     let at-separate = c .before .before .before .before .before .before .before .before .before .before .before .before .before .before .before .before .before .before .before in
     let at-second = at-separate .before .before .before .before .before .before .before .before .before .before .before in
     let at-shape-of2 = at-second .before .before in
