@@ -5,5 +5,6 @@ pub mod Parts
 pub mod RecordTrip
 pub mod Encodings
 pub mod Streams
+pub mod Shifts
 pub mod Examples
 pub mod Written

@@ -1,9 +1,9 @@
 -- The steps of an expansion, told of the lists and the answer that the code leaves. Assumes nothing.
 use mathlib.Core.Path.{_≡_, refl, sym, ap, subst, _∙_}
 use mathlib.Core.List.{List}
-use Prim.Native.Nat.{ℕ, _+_, _-_, _*_, _≤_, suc}
+use Prim.Native.Nat.{ℕ, _+_, _-_, _*_, _≤_}
 use native.Mathlib.Omega.{arith}
-use lib.ListN.{set, length}
+use lib.ListN.{set}
 use lib.Ieee.{Float, binary32}
 use borrow.Author.Tests.{eq-eqb, ne-eqb}
 use Rattle.vector.specs.declared.vec3.Vec3.{Vec3}
@@ -19,12 +19,11 @@ use Rattle.polytope.specs.declared.types.Step.the-variants.{Onward, Ended}
 use Rattle.polytope.specs.declared.types.WalkAnswer.{WalkAnswer}
 use Rattle.polytope.specs.declared.types.WalkAnswer.the-variants.{Done, NoRoom}
 use Rattle.polytope.specs.Walk.{Walked, walked, edges, facing, passOf}
-use Rattle.polytope.specs.Polytope.{State, Out, Act, Nil, World, onward, ended, stateOf, stepOut, worldOf, blank, complete, closeRing, link, growAll, regrow, delete, meshOf, passed, silhouette, expand, next, stopIf, put, look, _>>=_, _>>_}
-use Rattle.polytope.proofs.Steps.{Meets}
+use Rattle.polytope.specs.Polytope.{State, Out, Nil, World, ended, stateOf, stepOut, worldOf, blank, complete, closeRing, link, growAll, regrow, delete, meshOf, passed, silhouette, expand, next, stopIf, put, look, _>>=_, _>>_}
 use Rattle.pushes.specs.Contracts.{heapRoom}
 use Rattle.growth.specs.Contracts.{GrowsAll, Silhouettes}
 use Rattle.epa.specs.Contracts.{Completes, Closes, Regrows, Expands}
-use Rattle.epa.proofs.Counts.{Counted, counted, counted-growAll, counted-silhouette}
+use Rattle.epa.proofs.Counts.{counted, counted-growAll, counted-silhouette}
 
 pub completed : (run : Run) (ef ec ef' ec' : List ℕ) → ef' ≡ blank (run .edges) ef → ec' ≡ blank (run .edges) ec
     → Completes run ef ec ef' ec' (Onward (record { vertices = run .vertices; faces = run .faces; edges = 0; heap = run .heap; done = run .done + 1; most = run .most }))

@@ -6,3 +6,4 @@ pub mod Popping
 pub mod Advancing
 pub mod Turning
 pub mod Running
+pub mod Only

@@ -20,7 +20,8 @@ use Rattle.polytope.specs.declared.types.Step.the-variants.{Onward, Ended}
 use Rattle.polytope.specs.Polytope.{World, State, Out, Act, Nil, stateOf, stepOut, distTol, startVertices, startFaces, expansions, epa, noneYet, roomsOf, closestPoints, runEpa, fresh, stopIf, next, look, _>>=_, _>>_}
 use Rattle.polytope.proofs.Steps.{Meets, meets-then, meets-stopIf}
 use Rattle.pushes.specs.Contracts.{worldBy, heapRoom}
-use Rattle.start.specs.Contracts.{StartsVertices, StartsFaces}
+use Rattle.start.specs.Contracts.{StartsVertices}
+use Rattle.first_faces.specs.Contracts.{StartsFaces}
 use Rattle.epa.specs.Contracts.{TurnsReady, Expansions, Runs, answerAt}
 use Rattle.epa.specs.Final.{finalBy, finalOf, penetration}
 use Rattle.epa.specs.declared.types.Answer.{Answer}

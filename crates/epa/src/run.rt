@@ -7,6 +7,7 @@ ghost use Rattle.epa.specs.Contracts.{Runs, answerAt, countsBy};
 use crate::turns::expansions;
 use crate::types::Answer;
 use crate::types::Counts;
+use first_faces::start_faces;
 use polytope::End;
 use polytope::Lost;
 use polytope::Rooms;
@@ -16,7 +17,6 @@ use shape::Shape;
 use silhouette::live_to;
 use simplex::VoronoiSimplex;
 use start::dist_tol;
-use start::start_faces;
 use start::start_vertices;
 use vector::Pose;
 

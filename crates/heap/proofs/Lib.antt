@@ -2,7 +2,6 @@
 pub mod Steps
 pub mod Moves
 pub mod Places
-pub mod Faces
 pub mod Answers
 pub mod Told
 pub mod Examples

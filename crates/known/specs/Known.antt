@@ -7,7 +7,6 @@ use lib.IntN.{pos, negsuc}
 use lib.ListN.{length, take, replicate}
 use lib.Ieee.{Float, fin, binary32, ofBits, toBits}
 use Rattle.number.specs.Root.{root}
-use Rattle.vector.specs.declared.vec3.Vec3.{Vec3}
 use Rattle.vector.specs.Vector.{vec3, zeroF, oneF, twoF, zeroV}
 use Rattle.shape.specs.declared.vertex.Vertex.{Vertex}
 use Rattle.shape.specs.Vertex.{singlePoint}

@@ -7,7 +7,7 @@ use native.Mathlib.Nat.{add-zero}
 use native.Mathlib.Numerals.{add-one}
 use native.Mathlib.Omega.{arith}
 use lib.ListN.{length, take, drop, getD, set, length-append}
-use lib.Seq.{sets, sets-eq, length-sets, length-take-le, take-suc, take-at}
+use lib.Seq.{sets, sets-eq, length-take-le, take-suc, take-at}
 use lib.Dec.{ltb}
 use borrow.Author.Tests.{le-leb, lt-leb, lt-ltb, le-ltb}
 use Rattle.lines.specs.declared.text.Placed.the-variants.{Next, NoRoom}
@@ -34,10 +34,6 @@ pub one-more : (o t : List ℕ) (at i : ℕ) → i < length t → set (sets o at
 one-more o t at i h =
     let k : length (take i t) ≡ i = length-take-le i t (omega arith) in
     sym (rw (add-one, take-suc t i 0, sets-append (take i t) (getD t i 0 ∷ []) o at, k))
-
--- the slice keeps its length
-pub put-length : {o l o′ : List ℕ} {at next : ℕ} → Put o at l o′ next → length o′ ≡ length o
-put-length {o} {l} {o′} {at} {next} p = ap length (p .written) ∙ length-sets o at l
 
 -- what the first places hold
 pub front : {o l o′ : List ℕ} {next : ℕ} → Put o 0 l o′ next → length l ≤ length o → take next o′ ≡ l

@@ -1,7 +1,7 @@
 -- Lists of numbers below a bound, and live faces. A place outside a list counts as 0, or as deleted, so no length is asked for. Assumes nothing.
-use mathlib.Core.Path.{_≡_, refl, sym, ap, subst, _∙_}
+use mathlib.Core.Path.{_≡_, refl}
 use mathlib.Core.List.{List, [], _∷_}
-use Prim.Native.Nat.{ℕ, zero, suc, _+_, _*_, _<_, _≤_}
+use Prim.Native.Nat.{ℕ, zero, suc, _+_, _<_, _≤_}
 use native.Mathlib.Omega.{arith}
 use native.Mathlib.Decide.{ℕ-discrete}
 use lib.ListN.{length, getD, set}
@@ -25,9 +25,6 @@ in-set (x ∷ l) (suc i) v (suc j) n h k = in-set l i v j n h k
 
 pub all-set : (l : List ℕ) (i v n c : ℕ) → v < n → AllIn n c l → AllIn n c (set l i v)
 all-set l i v n c h a = record { below = λ j k. in-set l i v j n h (a .below j k) }
-
-pub all-more : (l : List ℕ) (n m c : ℕ) → n ≤ m → AllIn n c l → AllIn m c l
-all-more l n m c h a = record { below = λ j k. omega (arith, a .below j k) }
 
 -- one more place, that is written
 pub all-push : (l : List ℕ) (v n c : ℕ) → v < n → AllIn n c l → AllIn n (c + 1) (set l c v)

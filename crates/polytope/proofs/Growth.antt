@@ -1,29 +1,27 @@
 -- One expansion: the polytope stays sound, grows by no more than it may, and keeps what every move keeps. Assumes nothing.
-use mathlib.Core.Path.{_≡_, refl, sym, ap, subst, _∙_}
-use mathlib.Core.Bool.{Bool, true, false}
-use mathlib.Core.List.{List, [], _∷_}
-use mathlib.Core.Option.{Option, none, some}
-use Prim.Native.Nat.{ℕ, zero, suc, _+_, _-_, _*_, _%_, _<_, _≤_, max}
+use mathlib.Core.Path.{_≡_, refl, ap, subst}
+use mathlib.Core.Bool.{false}
+use mathlib.Core.Option.{none, some}
+use Prim.Native.Nat.{ℕ, zero, suc, _+_, _-_, _*_, _%_, _<_, _≤_}
 use native.Mathlib.Omega.{arith}
 use native.Mathlib.Decide.{ℕ-discrete}
 use lib.ListN.{getD, set}
-use lib.Seq.{getD-set-other, sets}
+use lib.Seq.{getD-set-other}
 use lib.Dec.{eqb}
-use lib.Ieee.{Float, lt, neg}
-use borrow.Author.Tests.{eqb-true, eqb-false}
+use borrow.Author.Tests.{eqb-false}
 use Rattle.polytope.specs.declared.types.WalkAnswer.{WalkAnswer}
 use Rattle.polytope.specs.declared.types.WalkAnswer.the-variants.{Done, NoRoom}
 use Rattle.polytope.specs.declared.types.Made.{Made}
-use Rattle.heap.specs.Heap.{Heap, Entry, entryAt, pushed, popped}
+use Rattle.heap.specs.Heap.{Entry, pushed, popped}
 use Rattle.polytope.specs.Walk.{Walked, walked, edges, facing, passOf}
-use Rattle.polytope.specs.Polytope.{World, State, Rooms, End, nothing, noRoom, theVerts, theFaces, theEdges, theHeap, Lost, keyLater, noSilhouette, allDeleted, Found, newFaceNearer, Out, onward, ended, Act, next, _>>=_, _>>_, Nil, pure, stop, look, put, ok, stopIf, doIf, branch, withFaces, withQueue, oneMore, pushFace, queueFace, liveTo, live, answerOf, answer, delete, meshOf, afterPass, passed, silhouette, link, linkedTo, Turn, queueNew, growAt, grow, growAll, complete, expand, regrow, closeRing, normalAt, pointAt, cornerAt, deadAt, madeOf, threeN}
+use Rattle.polytope.specs.Polytope.{World, State, Rooms, End, nothing, noRoom, theEdges, keyLater, Found, newFaceNearer, _>>=_, _>>_, Nil, stop, look, put, ok, stopIf, doIf, branch, withFaces, withQueue, oneMore, pushFace, liveTo, live, answerOf, answer, delete, meshOf, afterPass, passed, silhouette, link, linkedTo, Turn, queueNew, growAt, grow, growAll, complete, expand, regrow, closeRing, cornerAt, madeOf, threeN}
 use Rattle.polytope.specs.Bounds.{AllIn, Good, Sound, bound, Within, Tight, with-all, Ended, FromPoint}
 use Rattle.polytope.proofs.Basics.{at-set, in-set, all-set, all-as, all-three, but-second, all-none, live-delete, live-push}
 use Rattle.polytope.proofs.Sizes.{bound-suc}
 use Rattle.polytope.proofs.Heaps.{good-pushed}
 use Rattle.polytope.proofs.Walks.{asked-facing, askedOf, recordedOf, EdgesIn, spent-pass, kept-pass}
 use Rattle.polytope.proofs.Moves.{Keeps}
-use Rattle.polytope.proofs.Steps.{Meets, goes, ends, meets-bind, meets-then, meets-look, meets-put, meets-pure, meets-ok, meets-stop, meets-stopIf, meets-doIf, meets-link, meets-face, meets-queue, meets-branch, meets-map}
+use Rattle.polytope.proofs.Steps.{Meets, goes, ends, meets-then, meets-look, meets-ok, meets-stop, meets-stopIf, meets-doIf, meets-link, meets-face, meets-queue, meets-branch, meets-map}
 
 module _ (J : State → Type 0) where
   -- ---- what is known at each stage of the expansion after k, from f faces

@@ -1,17 +1,15 @@
 -- The heap keeps its count, holds no face but those that it was given, and writes no place but those of its entries. Assumes nothing.
-use mathlib.Core.Path.{_≡_, refl, sym, ap, subst, _∙_}
+use mathlib.Core.Path.{_≡_, refl, sym, ap, _∙_}
 use mathlib.Core.Bool.{Bool, true, false, cond}
-use mathlib.Core.List.{List, [], _∷_}
 use Prim.Native.Nat.{ℕ, zero, suc, _+_, _*_, _/_, _<_, _≤_}
 use native.Mathlib.Omega.{arith}
-use native.Mathlib.Nat.{le-of-suc-le-suc}
-use lib.ListN.{getD, set}
 use lib.Dec.{ltb}
-use borrow.Author.Tests.{ltb-true, ltb-false, le-ltb}
+use borrow.Author.Tests.{ltb-true, le-ltb}
+use Rattle.heap.proofs.Steps.{swap-count}
 use Rattle.heap.specs.Heap.{Heap, Entry, heap, entryAt, put, swap, less, riseIn, rise, Placed, placed, greater, sinkIn, sink, pushed, cleared, settled, popped}
 use Rattle.polytope.proofs.Basics.{all-set, all-push, all-fewer, all-none}
 use Rattle.polytope.proofs.Places.{stays, after, one-set}
-use Rattle.polytope.specs.Bounds.{AllIn, Good}
+use Rattle.polytope.specs.Bounds.{Good}
 use Rattle.polytope.specs.Rule.{Untouched}
 
 module _ (n c : ℕ) where
@@ -192,10 +190,6 @@ greater-more h i = by (less h (i + 1) i)
     by : (b : Bool) → i ≤ cond b i (i + 1)
     by true = omega arith
     by false = omega arith
-
-swap-count : (h : Heap) (i j : ℕ) → swap h i j .count ≡ h .count
-unfolding swap
-swap-count h i j = refl
 
 -- at or past the end nothing sinks
 sink-end : (n : ℕ) (h : Heap) (i : ℕ) → h .count ≤ i → sinkIn n h i ≡ placed h i

@@ -1,7 +1,7 @@
 -- Each list keeps its length, at every move of a run, and so whatever way it ends. Assumes nothing.
-use mathlib.Core.Path.{_≡_, refl, sym, ap, _∙_}
+use mathlib.Core.Path.{_≡_, refl, ap, _∙_}
 use mathlib.Core.Bool.{Bool, true, false, cond}
-use mathlib.Core.List.{List, [], _∷_}
+use mathlib.Core.List.{List, []}
 use Prim.Native.Nat.{ℕ, zero, suc, _+_, _*_, _/_}
 use lib.ListN.{length, set, length-set}
 use lib.Seq.{sets, length-sets}
@@ -9,8 +9,8 @@ use lib.Dec.{ltb}
 use lib.Ieee.{Float}
 use Rattle.shape.specs.declared.vertex.Vertex.{Vertex}
 use Rattle.simplex.specs.declared.simplex.VoronoiSimplex.{VoronoiSimplex}
-use Rattle.heap.specs.Heap.{Heap, Entry, heap, entryAt, put as putEntry, swap, less, riseIn, rise, Placed, placed, greater, sinkIn, sink, pushed, cleared, settled, popped}
-use Rattle.polytope.specs.Walk.{Mesh, Walked, Edges, walked, edges, facing, notedIf, noted, walkOf, passOf}
+use Rattle.heap.specs.Heap.{Heap, Entry, heap, entryAt, put as putEntry, swap, less, riseIn, rise, placed, greater, sinkIn, sink, pushed, cleared, settled, popped}
+use Rattle.polytope.specs.Walk.{Mesh, Walked, walked, edges, facing, notedIf, noted, walkOf, passOf}
 use Rattle.polytope.specs.Polytope.{World, State, Rooms, Made, End, Question, Done, ended, withVerts, withFaces, withQueue, vecCells, putVertex, putMade, oneMore, threeN, exchanged, vertexAt, look, put, _>>=_, delete, meshOf, linkedTo, blank, complete, fresh, roomsOf, runEpa}
 use Rattle.polytope.proofs.Walks.{walk-law, Any}
 use Rattle.polytope.proofs.Moves.{Keeps, left, withPass}

@@ -13,3 +13,5 @@ pub mod Start
 pub mod Rule
 pub mod Lengths
 pub mod Ways
+pub mod Only
+pub mod Panics

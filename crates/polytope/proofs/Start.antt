@@ -1,19 +1,17 @@
 -- The start, and the whole run: demand 3, with what every move keeps. Assumes nothing.
-use mathlib.Core.Path.{_≡_, refl, sym, ap, subst, _∙_}
+use mathlib.Core.Path.{_≡_, refl, sym, ap, subst}
 use mathlib.Core.Bool.{Bool, true, false, cond, not, _&&_}
-use mathlib.Core.List.{[], _∷_}
 use mathlib.Core.Option.{Option, none, some}
 use Prim.Native.Nat.{ℕ, zero, suc, _+_, _*_, _<_, _≤_}
 use native.Mathlib.Omega.{arith}
-use lib.ListN.{getD, set}
-use lib.Dec.{eqb, ltb}
+use lib.Dec.{eqb}
 use lib.Ieee.{Float}
 use borrow.Author.Tests.{eqb-true, eqb-false, leb-true, not-false}
 use Rattle.shape.specs.declared.vertex.Vertex.{Vertex}
 use Rattle.polytope.specs.declared.types.Made.{Made}
 use Rattle.heap.specs.Heap.{Heap, Entry, pushed}
-use Rattle.polytope.specs.Polytope.{World, State, Rooms, VoronoiSimplex, Verts, Best, End, answers, nothing, panics, noRoom, Store, theVerts, theFaces, theEdges, theHeap, keyAtStart, singlePoint, Out, onward, ended, Act, _>>=_, _>>_, Nil, pure, look, put, withFaces, withQueue, putVertex, oneMore, liveTo, live, threeN, pushPoints, firstFar, second, bootstrap, distTol, queueStart, startFour, fourFaces, queueFour, third, twoFaces, startTwo, startVertices, startFaces, expansions, turns, epa, fresh, roomsOf, runEpa, vertexAt}
-use Rattle.polytope.specs.Bounds.{AllIn, Good, Sound, Between, started, expanded, bound, Within, Small, Tight, Starting, without, with-all, Ended, Ends, facesAtStart, Ample}
+use Rattle.polytope.specs.Polytope.{World, State, Rooms, VoronoiSimplex, Verts, Best, End, nothing, noRoom, Store, theVerts, theFaces, theEdges, theHeap, keyAtStart, Out, onward, ended, Nil, look, put, withFaces, withQueue, oneMore, liveTo, live, threeN, pushPoints, firstFar, second, bootstrap, queueStart, startFour, fourFaces, queueFour, third, twoFaces, startTwo, startVertices, startFaces, expansions, turns, epa, fresh, roomsOf, runEpa, vertexAt}
+use Rattle.polytope.specs.Bounds.{AllIn, Good, Between, started, expanded, bound, Within, Tight, Starting, without, with-all, Ended, Ends, facesAtStart, Ample}
 use Rattle.polytope.proofs.Basics.{all-as, all-three, all-none, live-push}
 use Rattle.polytope.proofs.Sizes.{bound-zero, bound-most}
 use Rattle.polytope.proofs.Heaps.{good-pushed}
@@ -24,7 +22,7 @@ use Rattle.heap.specs.Heap as Heap
 use Rattle.number.specs.Constants.{largest}
 use Rattle.vector.specs.Vector.{zeroF}
 use Rattle.simplex.specs.Simplex.{isSimplex}
-use Rattle.polytope.proofs.Steps.{Meets, goes, meets-bind, meets-then, meets-look, meets-put, meets-pure, meets-ok, meets-stop, meets-stopIf, meets-doIf, meets-branch, meets-face, meets-queue, meets-vertex, meets-map}
+use Rattle.polytope.proofs.Steps.{Meets, meets-then, meets-look, meets-put, meets-ok, meets-stop, meets-stopIf, meets-doIf, meets-branch, meets-face, meets-queue, meets-vertex, meets-map}
 
 -- the stores with no entries
 pub record Empty (s : State) : Type 0 where

@@ -1,21 +1,21 @@
 -- The expansions, one after another: each keeps what every move keeps. Assumes nothing.
-use mathlib.Core.Path.{_≡_, refl, sym, ap, subst, _∙_}
+use mathlib.Core.Path.{_≡_, refl, ap, _∙_}
 use mathlib.Core.Bool.{Bool, true, false, cond}
 use mathlib.Core.Option.{Option, none, some}
-use Prim.Native.Nat.{ℕ, zero, suc, _+_, _*_, _<_, _≤_}
+use Prim.Native.Nat.{ℕ, zero, suc, _+_, _<_, _≤_}
 use native.Mathlib.Omega.{arith}
 use lib.ListN.{getD}
 use lib.Ieee.{Float, lt}
 use Rattle.vector.specs.Vector.{dotV}
 use Rattle.shape.specs.declared.vertex.Vertex.{Vertex}
 use borrow.Author.Tests.{eqb-true}
-use Rattle.heap.specs.Heap.{Heap, Entry, entryAt, popped}
-use Rattle.polytope.specs.Polytope.{World, State, Rooms, End, Found, Out, onward, ended, Act, _>>=_, _>>_, Nil, pure, look, put, withQueue, live, normalAt, answerOf, answer, popEntry, popLive, converged, stuck, heapEmpty, enoughTurns, Best, bettered, turn, advance, turnIf, turns}
-use Rattle.polytope.specs.Bounds.{AllIn, Good, Sound, bound, Within, Tight, with-all, FromPoint}
+use Rattle.heap.specs.Heap.{Entry, popped}
+use Rattle.polytope.specs.Polytope.{World, State, Rooms, End, Found, _>>=_, _>>_, pure, look, put, withQueue, live, normalAt, answerOf, answer, popEntry, popLive, converged, stuck, heapEmpty, enoughTurns, Best, bettered, turn, advance, turnIf, turns}
+use Rattle.polytope.specs.Bounds.{Good, bound, Within, Tight, with-all, FromPoint}
 use Rattle.polytope.proofs.Basics.{all-as}
 use Rattle.polytope.proofs.Sizes.{bound-suc}
 use Rattle.polytope.proofs.Heaps.{good-popped}
-use Rattle.polytope.proofs.Growth.{Ready, Stage, Turned, Ending, end-stage, end-answer, meets-expand}
+use Rattle.polytope.proofs.Growth.{Ready, Turned, Ending, end-answer, meets-expand}
 use Rattle.polytope.proofs.Moves.{Keeps, withVertex}
 use Rattle.polytope.proofs.Steps.{Meets, goes, meets-bind, meets-then, meets-look, meets-pure, meets-stop, meets-doIf, meets-branch, meets-vertex, meets-map}
 

@@ -274,10 +274,6 @@ module _ (m : Mesh) (N : ℕ) (h : AllIn N (N * 3) (m .adj)) where
     unfolding passOf
     spent-pass = omega (arith, spent s a ya, spent (walkOf m s a) b yb, spent (walkOf m (walkOf m s a) b) c yc)
 
-    pub fewer-pass : liveTo N (passOf m s a b c .dead) ≤ liveTo N (s .dead)
-    unfolding passOf
-    fewer-pass = omega (arith, fewer s a ya, fewer (walkOf m s a) b yb, fewer (walkOf m (walkOf m s a) b) c yc)
-
     pub kept-pass : EdgesIn N (s .edged) (s .edged .answer) → EdgesIn N (passOf m s a b c .edged) (passOf m s a b c .edged .answer)
     unfolding passOf
     kept-pass i = kept (walkOf m (walkOf m s a) b) c yc (kept (walkOf m s a) b yb (kept s a ya i))

@@ -1,8 +1,7 @@
 -- Ways out that no run takes: 'stuck' never decides, and the first peek finds a face. Assumes nothing.
-use mathlib.Core.Path.{_≡_, refl, sym, ap, subst, _∙_}
+use mathlib.Core.Path.{_≡_, refl, sym, ap, _∙_}
 use mathlib.Core.Bool.{Bool, true, false, cond, not, _&&_, _||_}
-use mathlib.Core.List.{List}
-use Prim.Native.Nat.{ℕ, zero, suc, _+_, _*_, _/_, _<_, _≤_}
+use Prim.Native.Nat.{ℕ, zero, suc, _+_, _*_, _/_, _<_}
 use native.Mathlib.Omega.{arith}
 use native.Mathlib.Nat.{le-refl}
 use lib.Dec.{ltb}
@@ -11,9 +10,10 @@ use borrow.Author.Tests.{le-ltb, not-false}
 use Rattle.number.specs.Constants.{epsilon}
 use Rattle.number.specs.Small.{absolute}
 use Rattle.vector.specs.Vector.{_⊖_}
-use Rattle.heap.specs.Heap.{Heap, Entry, heap, entryAt, put as putEntry, swap, less, riseIn, rise, pushed}
-use Rattle.polytope.specs.Polytope.{World, State, Rooms, Made, Lost, End, Best, Act, Out, Nil, withQueue, pushFace, queueFace, queueStart, fourFaces, queueFour, startFour, third, twoFaces, startTwo, startFaces, bettered, isStuck, doIf}
-use Rattle.polytope.proofs.Steps.{Meets, goes, ends, meets-bind, meets-then, meets-look, meets-put, meets-pure, meets-ok, meets-stop, meets-stopIf, meets-doIf, meets-face, meets-queue, meets-branch, meets-vertex, meets-map}
+use Rattle.heap.proofs.Steps.{swap-count}
+use Rattle.heap.specs.Heap.{Heap, Entry, heap, put as putEntry, swap, less, riseIn, rise, pushed}
+use Rattle.polytope.specs.Polytope.{World, State, Rooms, Made, Lost, End, Best, Out, Nil, pushFace, queueFace, queueStart, fourFaces, queueFour, startFour, twoFaces, startTwo, startFaces, bettered, isStuck, doIf}
+use Rattle.polytope.proofs.Steps.{Meets, goes, ends, meets-then, meets-look, meets-put, meets-stopIf, meets-doIf, meets-queue, meets-branch, meets-map}
 
 -- ---- 'stuck'
 
@@ -48,10 +48,6 @@ never-stuck f dist last c b i =
     and-false (lt (absolute (_⊖_ f dist last)) (epsilon f)) _ (ap (λ (x : Float). lt c x) (cond-bound (lt c (b .bound)) i c b) ∙ not-below c (b .bound) (lt c (b .bound)) refl)
 
 -- ---- the first peek
-
-swap-count : (h : Heap) (i j : ℕ) → swap h i j .count ≡ h .count
-unfolding swap
-swap-count h i j = refl
 
 pub rise-count : (n : ℕ) (h : Heap) (i : ℕ) → riseIn n h i .count ≡ h .count
 unfolding riseIn

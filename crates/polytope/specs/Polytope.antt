@@ -14,7 +14,6 @@ use Rattle.number.specs.Small.{absolute, larger}
 use Rattle.vector.specs.declared.vec3.Vec3.{Vec3}
 use Rattle.vector.specs.Vector.{vec3, zeroF, oneF, zeroV, xV, yV, zV, negV, addV, subV, scaleV, dotV, crossV, lengthSquaredV, lengthV, normalizeV, normalizeOrZeroV, equalV, _⊖_, _⊗_}
 use Rattle.shape.specs.declared.vertex.Vertex.{Vertex}
-use Rattle.projection.specs.declared.triangle.Triangle.{Triangle}
 use Rattle.projection.specs.Triangle.{isAffinelyDependent}
 pub use Rattle.simplex.specs.declared.simplex.VoronoiSimplex.{VoronoiSimplex}
 use Rattle.simplex.specs.Simplex.{isSimplex, vertexAt as cornerOf}

@@ -1,5 +1,5 @@
 // The polytope of epa3.rs, over stores that the caller lends: what its run passes from hand to hand. The run's definition is in specs/,
-// and what holds of it, demand 3 above all, in proofs/. The code is in the crates `silhouette` and `epa`.
+// and what holds of it, demand 3 above all, in proofs/. The code is in the crates from `silhouette` to `epa`.
 mod types;
 
 pub use types::Best;

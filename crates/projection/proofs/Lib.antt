@@ -1,3 +1,4 @@
 -- Facts on plain values.
 pub mod Inside
 pub mod Unwraps
+pub mod Locations

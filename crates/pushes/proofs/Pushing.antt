@@ -10,7 +10,7 @@ use lib.Dec.{leb, ltb}
 use lib.Ieee.{Float, lt}
 use borrow.Author.Tests.{lt-leb, le-leb, ltb-true, ltb-false}
 use Rattle.shape.specs.declared.vertex.Vertex.{Vertex}
-use Rattle.heap.specs.Heap.{Heap, Entry, heap, entry, pushed}
+use Rattle.heap.specs.Heap.{Heap, heap, entry, pushed}
 use Rattle.heap.specs.Calls.{After, after, leaves, room, pushOf}
 use Rattle.heap.specs.declared.Pushed.{Pushed}
 use Rattle.heap.specs.declared.Pushed.the-variants as Push
@@ -22,12 +22,10 @@ use Rattle.polytope.specs.declared.types.Lost.{Lost}
 use Rattle.polytope.specs.declared.types.Store.the-variants.{Vertices, Faces as FaceStore, Heap as HeapStore}
 use Rattle.polytope.specs.declared.types.End.{End}
 use Rattle.polytope.specs.declared.types.End.the-variants.{Nothing, NoRoom}
-use Rattle.polytope.specs.declared.types.Step.{Step}
 use Rattle.polytope.specs.declared.types.Step.the-variants.{Onward, Ended}
 use Rattle.polytope.specs.Polytope.{State, Faces, Out, Nil, onward, ended, stateOf, withFaces, withQueue, putVertex, oneMore, pushVertex, pushFace, queueFace, stopIf, put, look, _>>=_, _>>_}
 use Rattle.polytope.proofs.Ways.{pushed-count}
 use Rattle.pushes.specs.declared.types.FaceId.{FaceId}
-use Rattle.pushes.specs.declared.types.MaybeFaceId.{MaybeFaceId}
 use Rattle.pushes.specs.declared.types.MaybeFaceId.the-variants as MaybeFace
 use Rattle.pushes.specs.Contracts.{facesOf, listOf, faceIdNew, heapRoom, PushesVertex, PushesFace, QueuesFace}
 

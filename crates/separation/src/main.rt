@@ -9,8 +9,8 @@ use lines::Placed;
 use stream::Turn;
 use stream::Window;
 
-// Document 01: the program stops after this many records as at the file's end.
-const MOST_RECORDS: u64 = 4_294_967_295;
+// `stream` answers no more than 4,294,967,295 records; the loop goes one further and so ends by itself.
+const MOST_TURNS: u64 = 4_294_967_296;
 
 // So many bytes always decide a record.
 const RECORD_BYTES: usize = 160;
@@ -61,7 +61,7 @@ fn main() {
     let mut heap_key = [0.0f32; 1000];
     let mut state = begun(&mut out);
     let mut n: u64 = 0;
-    while n < MOST_RECORDS {
+    while n < MOST_TURNS {
         let next = turn(
             state,
             n + 1,
@@ -252,6 +252,7 @@ fn after(answer: Turn, w: Window, place: usize) -> State {
         }
         Turn::Stopped(following) => State::Done(following),
         Turn::NoRoom => State::Failed(place),
+        Turn::AllRead => State::Done(place),
     }
 }
 

@@ -1,25 +1,24 @@
 -- What the functions of this crate leave and answer, in the words of the run (Polytope.antt of the crate `polytope`). Definitions only.
 -- A function that is lent some of the lists does what a step of the run does, whatever the others hold.
 use mathlib.Core.Path.{_≡_}
-use mathlib.Core.Bool.{Bool, not}
+use mathlib.Core.Bool.{not}
 use mathlib.Core.List.{List}
 use mathlib.Core.Option.{Option, none, some}
 use Prim.Native.Nat.{ℕ, _+_}
-use lib.Ieee.{Float, binary32}
+use lib.Ieee.{Float}
 use Rattle.vector.specs.declared.vec3.Vec3.{Vec3}
 use Rattle.vector.specs.declared.pose.Pose.{Pose}
 use Rattle.shape.specs.declared.shape.Shape.{Shape}
 use Rattle.shape.specs.declared.vertex.Vertex.{Vertex}
 use Rattle.simplex.specs.declared.simplex.VoronoiSimplex.{VoronoiSimplex}
 use Rattle.simplex.specs.Simplex.{isSimplex}
-use Rattle.polytope.specs.Polytope.{worldOf, stateOf, stepOut, twoFaces, pushPoints, bootstrap, startVertices, startFaces, fourFaces, queueFour, queueStart, startFour, startTwo, third, firstFar, stopIf, _>>_}
+use Rattle.polytope.specs.Polytope.{stateOf, stepOut, pushPoints, bootstrap, startVertices, firstFar, stopIf, _>>_}
 use Rattle.polytope.specs.declared.types.Site.the-variants.{NotASimplex}
 use Rattle.polytope.specs.declared.types.End.the-variants.{Panics}
 use Rattle.polytope.specs.declared.types.Run.{Run}
 use Rattle.polytope.specs.declared.types.Rooms.{Rooms}
-use Rattle.polytope.specs.declared.types.Made.{Made}
 use Rattle.polytope.specs.declared.types.Step.{Step}
-use Rattle.pushes.specs.Contracts.{worldBy, heapRoom}
+use Rattle.pushes.specs.Contracts.{worldBy}
 use Rattle.start.specs.declared.types.MaybeVertex.{MaybeVertex}
 use Rattle.start.specs.declared.types.MaybeVertex.the-variants as MaybeVert
 
@@ -49,51 +48,3 @@ abbrev pub StartsVertices : Pose → Shape → Shape → Rooms → Run → Voron
 StartsVertices m g1 g2 rooms run x v v' r =
     (p a : List ℕ) (n : List Float) (d ef ec hf : List ℕ) (hk : List Float)
     → stepOut (λ c. stateOf v' p a n d ef ec hf hk c) r ≡ (stopIf (not (isSimplex x)) (Panics NotASimplex) >> startVertices (worldBy m g1 g2) rooms x) (stateOf v p a n d ef ec hf hk run)
-
--- `fourFaces`
-abbrev pub FourFaces : Rooms → Run → Made → Made → Made → Made → List ℕ → List ℕ → List Float → List ℕ → List ℕ → List ℕ → List Float → List ℕ → Step → Type 0
-FourFaces rooms run m1 m2 m3 m4 p a n d p' a' n' d' r =
-    (v : List Float) (ef ec hf : List ℕ) (hk : List Float)
-    → stepOut (λ c. stateOf v p' a' n' d' ef ec hf hk c) r ≡ fourFaces rooms m1 m2 m3 m4 (stateOf v p a n d ef ec hf hk run)
-
--- `queueStart`
-abbrev pub QueuesStart : Rooms → Run → Float → ℕ → Bool → List Float → List Float → List ℕ → List Float → List ℕ → List Float → Step → Type 0
-QueuesStart rooms run tol i holds v n hf hk hf' hk' r =
-    (supp : Vec3 → Vertex) (p a d ef ec : List ℕ)
-    → stepOut (λ c. stateOf v p a n d ef ec hf' hk' c) r ≡ queueStart (worldOf binary32 supp) (heapRoom rooms hf hk) tol i holds (stateOf v p a n d ef ec hf hk run)
-
--- `queueFour`
-abbrev pub QueuesFour : Rooms → Run → Float → Bool → Bool → Bool → Bool → List Float → List Float → List ℕ → List Float → List ℕ → List Float → Step → Type 0
-QueuesFour rooms run tol h1 h2 h3 h4 v n hf hk hf' hk' r =
-    (supp : Vec3 → Vertex) (p a d ef ec : List ℕ)
-    → stepOut (λ c. stateOf v p a n d ef ec hf' hk' c) r ≡ queueFour (worldOf binary32 supp) (heapRoom rooms hf hk) tol h1 h2 h3 h4 (stateOf v p a n d ef ec hf hk run)
-
--- `startFour`
-abbrev pub StartsFour : Rooms → Run → Float → List Float → List ℕ → List ℕ → List Float → List ℕ → List ℕ → List Float → List Float → List ℕ → List ℕ → List Float → List ℕ → List ℕ → List Float → Step → Type 0
-StartsFour rooms run tol v p a n d hf hk v' p' a' n' d' hf' hk' r =
-    (supp : Vec3 → Vertex) (ef ec : List ℕ)
-    → stepOut (λ c. stateOf v' p' a' n' d' ef ec hf' hk' c) r ≡ startFour (worldOf binary32 supp) (heapRoom rooms hf hk) tol (stateOf v p a n d ef ec hf hk run)
-
--- `third`
-abbrev pub Thirds : Pose → Shape → Shape → Rooms → Run → List Float → List Float → Step → Type 0
-Thirds m g1 g2 rooms run v v' r =
-    (p a : List ℕ) (n : List Float) (d ef ec hf : List ℕ) (hk : List Float)
-    → stepOut (λ c. stateOf v' p a n d ef ec hf hk c) r ≡ third (worldBy m g1 g2) rooms (stateOf v p a n d ef ec hf hk run)
-
--- `twoFaces`
-abbrev pub TwoFaces : Rooms → Run → Float → List Float → List ℕ → List ℕ → List Float → List ℕ → List ℕ → List Float → List ℕ → List ℕ → List Float → List ℕ → List ℕ → List Float → Step → Type 0
-TwoFaces rooms run tol v p a n d hf hk p' a' n' d' hf' hk' r =
-    (supp : Vec3 → Vertex) (ef ec : List ℕ)
-    → stepOut (λ c. stateOf v p' a' n' d' ef ec hf' hk' c) r ≡ twoFaces (worldOf binary32 supp) (heapRoom rooms hf hk) tol (stateOf v p a n d ef ec hf hk run)
-
--- `startTwo`
-abbrev pub StartsTwo : Pose → Shape → Shape → Rooms → Run → Float → List Float → List ℕ → List ℕ → List Float → List ℕ → List ℕ → List Float → List Float → List ℕ → List ℕ → List Float → List ℕ → List ℕ → List Float → Step → Type 0
-StartsTwo m g1 g2 rooms run tol v p a n d hf hk v' p' a' n' d' hf' hk' r =
-    (ef ec : List ℕ)
-    → stepOut (λ c. stateOf v' p' a' n' d' ef ec hf' hk' c) r ≡ startTwo (worldBy m g1 g2) (heapRoom rooms hf hk) tol (stateOf v p a n d ef ec hf hk run)
-
--- `startFaces`
-abbrev pub StartsFaces : Pose → Shape → Shape → Rooms → Run → ℕ → Float → List Float → List ℕ → List ℕ → List Float → List ℕ → List ℕ → List Float → List Float → List ℕ → List ℕ → List Float → List ℕ → List ℕ → List Float → Step → Type 0
-StartsFaces m g1 g2 rooms run dim tol v p a n d hf hk v' p' a' n' d' hf' hk' r =
-    (ef ec : List ℕ)
-    → stepOut (λ c. stateOf v' p' a' n' d' ef ec hf' hk' c) r ≡ startFaces (worldBy m g1 g2) (heapRoom rooms hf hk) dim tol (stateOf v p a n d ef ec hf hk run)

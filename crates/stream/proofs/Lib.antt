@@ -1,3 +1,4 @@
 -- What the functions' proofs cite.
 pub mod Fronts
 pub mod Turns
+pub mod Windows

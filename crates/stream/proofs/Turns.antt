@@ -1,10 +1,11 @@
--- A turn's answer, output and stores, by what reading the record found: a whole record (`whole`), a malformed number (`malformed`), or the end of the bytes (`cut`).
--- By rewriting with what the callees answered. Assumes nothing.
-use mathlib.Core.Path.{_≡_, sym, ap, _∙_}
+-- A turn's answer, output and stores: after the last record nothing is read (`all-read`); up to it, by what reading the record found, a whole record (`whole`), a malformed number
+-- (`malformed`), or the end of the bytes (`cut`). By rewriting with what the callees answered. Assumes nothing.
+use mathlib.Core.Path.{_≡_, refl, sym, ap, _∙_}
 use mathlib.Core.List.{List}
-use Prim.Native.Nat.{ℕ}
+use Prim.Native.Nat.{ℕ, _<_, _≤_}
 use lib.ListN.{length}
 use lib.Ieee.{Float}
+use borrow.Author.Tests.{lt-ltb, le-ltb}
 use Rattle.casefile.specs.declared.records.Case.{Case}
 use Rattle.casefile.specs.declared.records.CaseAnswer.{CaseAnswer}
 use Rattle.casefile.specs.Records.{readCase}
@@ -14,12 +15,23 @@ use Rattle.lines.specs.Text.{after, placeOf}
 use Rattle.lines.specs.Lines.{lineOf, badLine}
 use Rattle.epa.specs.Final.{finalBy, answered}
 use Rattle.stream.specs.declared.Turn.{Turn}
-use Rattle.stream.specs.Stream.{Told, told, offsetOf, caseOutcome, lineTurn, badTurn, lineTold, badTold, turnBy, turnOf}
+use Rattle.stream.specs.declared.Turn.the-variants as Turn
+use Rattle.stream.specs.Stream.{Told, told, offsetOf, caseOutcome, lineTurn, badTurn, lineTold, badTold, turnBy, mostRecords, turnOf}
 
-module _ (s : List ℕ) (at base number : ℕ) (o : List ℕ) (place : ℕ) (v : List Float) (p a : List ℕ) (n : List Float) (d ef ec hf : List ℕ) (hk : List Float) (found : CaseAnswer) (read : found ≡ readCase s at) where
-  by-found : (f : CaseAnswer) → found ≡ f → turnBy f s base number o place v p a n d ef ec hf hk ≡ turnOf s at base number o place v p a n d ef ec hf hk
+module _ (s : List ℕ) (at base number : ℕ) (o : List ℕ) (place : ℕ) (v : List Float) (p a : List ℕ) (n : List Float) (d ef ec hf : List ℕ) (hk : List Float) where
+  pub all-read : mostRecords < number → finalBy (told Turn.AllRead o) v p a n d ef ec hf hk ≡ turnOf s at base number o place v p a n d ef ec hf hk
   unfolding turnOf
-  by-found f is = ap (λ (t : CaseAnswer). turnBy t s base number o place v p a n d ef ec hf hk) (sym is ∙ read)
+  all-read h = rw (lt-ltb mostRecords number h) refl
+
+  -- up to the last record, a turn is what reading finds
+  pub up-to-the-last : number ≤ mostRecords → turnOf s at base number o place v p a n d ef ec hf hk ≡ turnBy (readCase s at) s base number o place v p a n d ef ec hf hk
+  unfolding turnOf
+  up-to-the-last h = rw (le-ltb mostRecords number h) refl
+
+module _ (s : List ℕ) (at base number : ℕ) (o : List ℕ) (place : ℕ) (v : List Float) (p a : List ℕ) (n : List Float) (d ef ec hf : List ℕ) (hk : List Float) (within : number ≤ mostRecords) (found : CaseAnswer) (read : found ≡ readCase s at) where
+  by-found : (f : CaseAnswer) → found ≡ f → turnBy f s base number o place v p a n d ef ec hf hk ≡ turnOf s at base number o place v p a n d ef ec hf hk
+  by-found f is =
+      ap (λ (t : CaseAnswer). turnBy t s base number o place v p a n d ef ec hf hk) (sym is ∙ read) ∙ sym (up-to-the-last s at base number o place v p a n d ef ec hf hk within)
 
   pub whole : (c : Case) (next : ℕ) → found ≡ CaseAnswer.Whole c next
       → (v' : List Float) (p' a' : List ℕ) (n' : List Float) (d' ef' ec' hf' : List ℕ) (hk' : List Float) (x : Outcome)

@@ -73,6 +73,11 @@ turnBy (CaseAnswer.Whole c next) s base number o place v p a n d ef ec hf hk =
 turnBy (CaseAnswer.Malformed b) s base number o place v p a n d ef ec hf hk = finalBy (badTold (placeOf o place (badLine (offsetOf base b)))) v p a n d ef ec hf hk
 turnBy CaseAnswer.Ended s base number o place v p a n d ef ec hf hk = finalBy (badTold (placeOf o place (badLine (offsetOf base (length s))))) v p a n d ef ec hf hk
 
+-- after so many records a run stops as at the file's end
+abbrev pub mostRecords : ℕ
+mostRecords = 4_294_967_295
+
 -- the window's bytes, the record's place in them, where the window stands in the file, the record's number, and the output from a place on
 unfoldable pub turnOf : List ℕ → ℕ → ℕ → ℕ → List ℕ → ℕ → List Float → List ℕ → List ℕ → List Float → List ℕ → List ℕ → List ℕ → List ℕ → List Float → Final Told
-turnOf s at base number o place v p a n d ef ec hf hk = turnBy (readCase s at) s base number o place v p a n d ef ec hf hk
+turnOf s at base number o place v p a n d ef ec hf hk =
+    cond (ltb mostRecords number) (finalBy (told Turn.AllRead o) v p a n d ef ec hf hk) (turnBy (readCase s at) s base number o place v p a n d ef ec hf hk)

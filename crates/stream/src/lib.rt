@@ -17,6 +17,9 @@ pub struct Window {
     pub ended: bool,
 }
 
+// Document 01: after so many records a run stops as at the file's end.
+const MOST_RECORDS: u64 = 4_294_967_295;
+
 // What one turn did.
 pub enum Turn {
     // A record's line was written: the place of the next record, and of the next line.
@@ -25,6 +28,8 @@ pub enum Turn {
     Stopped(usize),
     // The output has no room for the line: nothing was written to it.
     NoRoom,
+    // So many records were answered that no more is read: nothing was written.
+    AllRead,
 }
 
 // ---- the window
@@ -131,8 +136,8 @@ fn bad_turn(placed: Placed) -> Turn
 }
 
 // The record at the place `at` of the bytes, whose first has the offset `base` in the file, is read and answered, and its
-// line goes to the places of `out` from `place` on. The bytes are the file's rest, or at least 160 from `at` on, which
-// always decide a record (law `enough` of the crate `casefile`).
+// line goes to the places of `out` from `place` on. The bytes are the file's rest, or at least 160 from `at` on: then the
+// turn is the whole file's (law `window-turn`).
 pub fn answer_next(
     bytes: &[u8],
     at: usize,
@@ -152,6 +157,9 @@ pub fn answer_next(
 ) -> Turn
     ensures { λ r. ⌜ finalBy (told r (now (out .exit))) (now (vertices .exit)) (now (pts .exit)) (now (adj .exit)) (now (nums .exit)) (now (dead .exit)) (now («edge_face» .exit)) (now («edge_corner» .exit)) (now («heap_face» .exit)) (now («heap_key» .exit)) ≡ turnOf (now (bytes .entry)) at base number (now (out .entry)) place (now (vertices .entry)) (now (pts .entry)) (now (adj .entry)) (now (nums .entry)) (now (dead .entry)) (now («edge_face» .entry)) (now («edge_corner» .entry)) (now («heap_face» .entry)) (now («heap_key» .entry)) ⌝ }
 {
+    if MOST_RECORDS < number {
+        return Turn::AllRead;
+    }
     let found = casefile::read_case(bytes, at);
     match found {
         CaseAnswer::Whole { case, next } => {

@@ -1,4 +1,4 @@
--- `main` is safe and ends: after 4,294,967,295 records at most. The lengths of the arrays stay. Assumes nothing.
+-- `main` is safe and ends: after 4,294,967,296 turns at most. The lengths of the arrays stay. Assumes nothing.
 use borrow.Author.Needs.{needs}
 use Prim.Native.Nat.{_-_, _≤_}
 use mathlib.Core.Path.{_≡_}
@@ -7,10 +7,10 @@ use Rattle.separation.proofs.main.Statement.{statement}
 use Rattle.separation.proofs.main.Tie as tie
 
 abbrev Inv-loop : tie.InvT-loop
-Inv-loop input₀ out₀ vertices₀ pts₀ adj₀ nums₀ dead₀ edge-face₀ edge-corner₀ heap-face₀ heap-key₀ state₀ n₀ input out vertices pts adj nums dead edge-face edge-corner heap-face heap-key state n = (n ≤ 4294967295) × (length input ≡ 65536) × (length out ≡ 65536) × (length vertices ≡ 945) × (length pts ≡ 3000) × (length adj ≡ 3000) × (length nums ≡ 6000) × (length dead ≡ 1000) × (length edge-face ≡ 206) × (length edge-corner ≡ 206) × (length heap-face ≡ 1000) × (length heap-key ≡ 1000)
+Inv-loop input₀ out₀ vertices₀ pts₀ adj₀ nums₀ dead₀ edge-face₀ edge-corner₀ heap-face₀ heap-key₀ state₀ n₀ input out vertices pts adj nums dead edge-face edge-corner heap-face heap-key state n = (n ≤ 4294967296) × (length input ≡ 65536) × (length out ≡ 65536) × (length vertices ≡ 945) × (length pts ≡ 3000) × (length adj ≡ 3000) × (length nums ≡ 6000) × (length dead ≡ 1000) × (length edge-face ≡ 206) × (length edge-corner ≡ 206) × (length heap-face ≡ 1000) × (length heap-key ≡ 1000)
 
 abbrev μ-loop : tie.MeasureT-loop
-μ-loop input₀ out₀ vertices₀ pts₀ adj₀ nums₀ dead₀ edge-face₀ edge-corner₀ heap-face₀ heap-key₀ state₀ n₀ input out vertices pts adj nums dead edge-face edge-corner heap-face heap-key state n = 4294967295 - n
+μ-loop input₀ out₀ vertices₀ pts₀ adj₀ nums₀ dead₀ edge-face₀ edge-corner₀ heap-face₀ heap-key₀ state₀ n₀ input out vertices pts adj nums dead edge-face edge-corner heap-face heap-key state n = 4294967296 - n
 
 large-buffer-requires : tie.Need-large-buffer-requires Inv-loop μ-loop
 large-buffer-requires c κs = search needs

@@ -1,7 +1,7 @@
 -- `read_enough` is safe and ends after 160 reads at most. Assumes nothing.
 use borrow.Author.Needs.{needs}
 use Prim.Native.Nat.{_-_, _≤_}
-use mathlib.Core.Path.{_≡_, _∙_}
+use mathlib.Core.Path.{_≡_}
 use lib.ListN.{length}
 use Rattle.separation.proofs.read_enough.Statement.{statement}
 use Rattle.separation.proofs.read_enough.Tie as tie

@@ -1,7 +1,7 @@
 -- `turn` is safe. Assumes nothing.
 use native.Mathlib.Omega.{arith}
 use borrow.Author.Needs.{needs}
-use mathlib.Core.Path.{sym, _∙_}
+use mathlib.Core.Path.{sym}
 use lib.Seq.{length-take-le}
 use Rattle.separation.proofs.turn.Statement.{statement}
 use Rattle.separation.proofs.turn.Tie as tie

@@ -1,6 +1,6 @@
 -- `advance` does what the run's `advance` does. Assumes nothing.
 use borrow.Author.Needs.{needs}
-use mathlib.Core.Path.{_≡_, sym, subst, _∙_}
+use mathlib.Core.Path.{sym, _∙_}
 use Rattle.epa.proofs.Advancing.{converges, is-stuck, advanced}
 use Rattle.epa.proofs.turns.advance.Statement.{statement}
 use Rattle.epa.proofs.turns.advance.Tie as tie

@@ -1,7 +1,6 @@
 -- What `note` leaves and returns. Assumes nothing.
 use borrow.Author.Needs.{needs}
 use borrow.Author.Tests.{le-ltb, lt-ltb}
-use Rattle.polytope.specs.Walk.{noted}
 use Rattle.silhouette.proofs.silhouette.note.Statement.{statement}
 use Rattle.silhouette.proofs.silhouette.note.Tie as tie
 

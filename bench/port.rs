@@ -1,0 +1,134 @@
+//! A record as a call of the port's library, through bindings/separation.rs.
+
+#[path = "../bindings/separation.rs"]
+#[allow(dead_code)]
+mod separation;
+
+use crate::casefile::{self, Record};
+use crate::channel::ROOMS;
+use crate::Checksum;
+use separation::{Answer, Pose, Shape, Stores, Vector};
+
+/// The letters of document 01 in the order of the outcomes' numbers.
+const LETTERS: &[u8; 7] = b"DMSPNXR";
+
+pub struct Call {
+    pose: Pose,
+    first: Shape,
+    second: Shape,
+    direction: Vector,
+    max_distance: f32,
+    exact: bool,
+}
+
+fn vector([x, y, z]: [f32; 3]) -> Vector {
+    Vector { x, y, z }
+}
+
+fn shape(shape: casefile::Shape) -> Shape {
+    match shape {
+        casefile::Shape::Ball([radius]) => Shape::Ball { radius },
+        casefile::Shape::Cuboid(half_extents) => Shape::Cuboid { half_extents: vector(half_extents) },
+        casefile::Shape::Capsule([ax, ay, az, bx, by, bz, radius]) => {
+            Shape::Capsule { a: vector([ax, ay, az]), b: vector([bx, by, bz]), radius }
+        }
+        casefile::Shape::Triangle([ax, ay, az, bx, by, bz, cx, cy, cz]) => {
+            Shape::Triangle { a: vector([ax, ay, az]), b: vector([bx, by, bz]), c: vector([cx, cy, cz]) }
+        }
+    }
+}
+
+impl From<&Record> for Call {
+    fn from(record: &Record) -> Self {
+        Self {
+            pose: Pose { rotation: record.rotation, translation: vector(record.translation) },
+            first: shape(record.first),
+            second: shape(record.second),
+            direction: vector(record.direction),
+            max_distance: record.max_distance,
+            exact: record.exact,
+        }
+    }
+}
+
+/// The stores that each call is lent: as long as the program's.
+pub struct Room {
+    vertices: Vec<f32>,
+    pts: Vec<usize>,
+    adj: Vec<usize>,
+    nums: Vec<f32>,
+    dead: Vec<u8>,
+    edge_face: Vec<usize>,
+    edge_corner: Vec<usize>,
+    heap_face: Vec<usize>,
+    heap_key: Vec<f32>,
+}
+
+impl Default for Room {
+    fn default() -> Self {
+        Self {
+            vertices: vec![0.0; 9 * ROOMS.vertices],
+            pts: vec![0; 3 * ROOMS.faces],
+            adj: vec![0; 3 * ROOMS.faces],
+            nums: vec![0.0; 6 * ROOMS.faces],
+            dead: vec![0; ROOMS.faces],
+            edge_face: vec![0; ROOMS.edges],
+            edge_corner: vec![0; ROOMS.edges],
+            heap_face: vec![0; ROOMS.heap],
+            heap_key: vec![0.0; ROOMS.heap],
+        }
+    }
+}
+
+impl Room {
+    fn lent(&mut self) -> Stores<'_> {
+        Stores {
+            vertices: &mut self.vertices,
+            pts: &mut self.pts,
+            adj: &mut self.adj,
+            nums: &mut self.nums,
+            dead: &mut self.dead,
+            edge_face: &mut self.edge_face,
+            edge_corner: &mut self.edge_corner,
+            heap_face: &mut self.heap_face,
+            heap_key: &mut self.heap_key,
+        }
+    }
+}
+
+impl Call {
+    pub fn run(&self, room: &mut Room) -> Answer {
+        let mut stores = room.lent();
+        separation::run(
+            self.pose,
+            self.first,
+            self.second,
+            self.direction,
+            self.max_distance,
+            self.exact,
+            &mut stores,
+        )
+    }
+}
+
+/// What a line of output has of an answer, in its order.
+pub fn add_answer(checksum: &mut Checksum, answer: &Answer) {
+    let letter = LETTERS[usize::from(answer.outcome)];
+    checksum.add(u64::from(letter));
+    let vectors: &[Vector] = match letter {
+        b'D' | b'P' => &[answer.point1, answer.point2, answer.normal],
+        b'M' | b'S' => &[answer.normal],
+        _ => &[],
+    };
+    for vector in vectors {
+        checksum.add_float(vector.x);
+        checksum.add_float(vector.y);
+        checksum.add_float(vector.z);
+    }
+    if matches!(letter, b'P' | b'N' | b'R') {
+        let counts = answer.counts;
+        for count in [counts.expansions, counts.made, counts.live, counts.edges] {
+            checksum.add(count as u64);
+        }
+    }
+}

@@ -1,0 +1,2 @@
+-- What the functions' proofs cite: the steps of the first faces.
+pub mod Starting
