@@ -46,6 +46,14 @@ pub struct Answer {
     pub counts: Counts,
 }
 
+/// One record of the silhouette's store.
+#[repr(C)]
+#[derive(Copy, Clone, Debug, Default, PartialEq)]
+pub struct Edge {
+    pub face: usize,
+    pub corner: usize,
+}
+
 /// `number` is 0, or 5 where no two answers agree; `odd` is the channel that differs, or 0.
 #[repr(C)]
 #[derive(Copy, Clone, Debug, PartialEq)]
@@ -62,8 +70,7 @@ pub struct Stores<'a> {
     pub adj: &'a mut [usize],
     pub nums: &'a mut [f32],
     pub dead: &'a mut [u8],
-    pub edge_face: &'a mut [usize],
-    pub edge_corner: &'a mut [usize],
+    pub edges: &'a mut [Edge],
     pub heap_face: &'a mut [usize],
     pub heap_key: &'a mut [f32],
 }
@@ -108,10 +115,8 @@ unsafe extern "C" {
         nums_length: usize,
         dead: *mut u8,
         dead_length: usize,
-        edge_face: *mut usize,
-        edge_face_length: usize,
-        edge_corner: *mut usize,
-        edge_corner_length: usize,
+        edges: *mut Edge,
+        edges_length: usize,
         heap_face: *mut usize,
         heap_face_length: usize,
         heap_key: *mut f32,
@@ -141,10 +146,8 @@ pub fn run(pos12: Pose, g1: Shape, g2: Shape, dir: Vector, max_dist: f32, exact:
             s.nums.len(),
             s.dead.as_mut_ptr(),
             s.dead.len(),
-            s.edge_face.as_mut_ptr(),
-            s.edge_face.len(),
-            s.edge_corner.as_mut_ptr(),
-            s.edge_corner.len(),
+            s.edges.as_mut_ptr(),
+            s.edges.len(),
             s.heap_face.as_mut_ptr(),
             s.heap_face.len(),
             s.heap_key.as_mut_ptr(),

@@ -10,7 +10,7 @@ static float vertices[9 * VERTICES];
 static size_t pts[3 * FACES], adj[3 * FACES];
 static float nums[6 * FACES];
 static uint8_t dead[FACES];
-static size_t edge_face[EDGES], edge_corner[EDGES];
+static separation_edge edges[EDGES];
 static size_t heap_face[HEAP];
 static float heap_key[HEAP];
 
@@ -23,7 +23,7 @@ static separation_answer run(float along_x)
     separation_pose pose = {0, 0, 0, 1, {along_x, 0, 0.5f}};
     separation_vector dir = {1, 0, 0};
     return separation_run(pose, upper, lower, dir, 10, true, LENT(vertices), LENT(pts), LENT(adj), LENT(nums),
-                          LENT(dead), LENT(edge_face), LENT(edge_corner), LENT(heap_face), LENT(heap_key));
+                          LENT(dead), LENT(edges), LENT(heap_face), LENT(heap_key));
 }
 
 static void print_vector(separation_vector v)

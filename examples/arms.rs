@@ -3,7 +3,7 @@
 #[path = "../bindings/separation.rs"]
 mod separation;
 
-use separation::{run, vote, Answer, Pose, Shape, Stores, Vector};
+use separation::{run, vote, Answer, Edge, Pose, Shape, Stores, Vector};
 
 const FACES: usize = 1000;
 
@@ -21,8 +21,7 @@ fn links(along_x: f32) -> Answer {
         adj: &mut [0; 3 * FACES],
         nums: &mut [0.0; 6 * FACES],
         dead: &mut [0; FACES],
-        edge_face: &mut [0; 206],
-        edge_corner: &mut [0; 206],
+        edges: &mut [Edge::default(); 206],
         heap_face: &mut [0; 1000],
         heap_key: &mut [0.0; 1000],
     };

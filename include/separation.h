@@ -54,6 +54,11 @@ typedef struct {
     separation_counts counts;
 } separation_answer;
 
+/* One record of the silhouette's store. */
+typedef struct {
+    size_t face, corner;
+} separation_edge;
+
 /* number: 0, or 5 where no two answers agree. odd: the number of the channel that differs, or 0. */
 typedef struct {
     uint32_t number;
@@ -66,7 +71,7 @@ typedef struct {
  * Four stores are lent, each slice as a pointer and its length. A store of several slices is as long as the fewest
  * whole records that one of them holds. 105 vertices, 10,710 faces, 206 edges and 10,710 heap entries are never refused.
  *   vertices: nine numbers each          faces: three in pts, three in adj, six in nums, one in dead
- *   edges: one in each of two slices     heap entries: one in each of two slices */
+ *   edges: one record each               heap entries: one in each of two slices */
 separation_answer separation_run(
     separation_pose pos12, separation_shape g1, separation_shape g2,
     separation_vector dir, float max_dist, bool exact,
@@ -75,8 +80,7 @@ separation_answer separation_run(
     size_t *adj, size_t adj_length,
     float *nums, size_t nums_length,
     uint8_t *dead, size_t dead_length,
-    size_t *edge_face, size_t edge_face_length,
-    size_t *edge_corner, size_t edge_corner_length,
+    separation_edge *edges, size_t edges_length,
     size_t *heap_face, size_t heap_face_length,
     float *heap_key, size_t heap_key_length);
 

@@ -10,6 +10,8 @@ use Rattle.vector.specs.Vector.{zeroV}
 use Rattle.shape.specs.declared.shape.Shape.{Shape}
 use Rattle.shape.specs.declared.shape.Shape.the-variants.{Ball, Cuboid, Capsule, Triangle}
 use Rattle.epa.specs.Final.{Final, finalBy, answered}
+use Rattle.edges.specs.declared.Edge.{Edge}
+use Rattle.epa_lent.specs.Lent.{FinalEdges, onRecords}
 use Rattle.lines.specs.declared.line.Counts as Told
 use Rattle.lines.specs.declared.line.Outcome.{Outcome}
 use Rattle.lines.specs.declared.line.Outcome.the-variants.{ClosestPoints, Proximity, NoIntersection, Penetration, NoAnswer, Panic, NoPlace}
@@ -63,6 +65,10 @@ abbrev pub ran : Pose → MaybeShape → MaybeShape → Vec3 → Float → Bool 
 ran m (Some g1) (Some g2) dir maxDist exact v p a n d ef ec hf hk = answered answerOf (separated m g1 g2 dir maxDist exact v p a n d ef ec hf hk)
 ran m (Some g1) None dir maxDist exact v p a n d ef ec hf hk = finalBy malformed v p a n d ef ec hf hk
 ran m None x dir maxDist exact v p a n d ef ec hf hk = finalBy malformed v p a n d ef ec hf hk
+
+-- the same with the silhouette's store as one list of records
+abbrev pub ranEdges : Pose → MaybeShape → MaybeShape → Vec3 → Float → Bool → List Float → List ℕ → List ℕ → List Float → List ℕ → List Edge → List ℕ → List Float → FinalEdges Answer
+ranEdges m x1 x2 dir maxDist exact v p a n d es hf hk = onRecords (λ ef ec. ran m x1 x2 dir maxDist exact v p a n d ef ec hf hk) es
 
 -- the odd channel's number, 0 where there is none or no two agree
 abbrev pub oddOf : Verdict → ℕ

@@ -2,8 +2,13 @@
 // allocated and nothing kept. Stores of any lengths are taken; a kind of shape above 3 is answered as malformed.
 ghost use mathlib.Core.Path.{_≡_};
 ghost use Rattle.vote.specs.Vote.{voteOf};
+ghost use Prim.Native.Nat.{_≤_};
+ghost use lib.ListN.{length, take};
 ghost use Rattle.epa.specs.Final.{finalBy};
-ghost use Rattle.embedding.specs.Embedding.{shapeOf, answerWith, countsOf, answerOf, malformed, votedOf, ran};
+ghost use Rattle.epa_lent.specs.Lent.{finalEdges};
+ghost use Rattle.embedding.specs.Embedding.{shapeOf, answerWith, countsOf, answerOf, malformed, votedOf, ran, ranEdges};
+use edges::Edge;
+use edges::Rows;
 use lines::Outcome;
 use shape::Shape;
 use vector::Pose;
@@ -113,8 +118,8 @@ fn malformed_answer() -> Answer
     answer_with(7, Vec3::ZERO, Vec3::ZERO, Vec3::ZERO, no_counts())
 }
 
-#[no_mangle]
-pub extern "C" fn separation_run(
+// On two rows of numbers.
+fn run_columns(
     pos12: Pose,
     g1: ShapeRecord,
     g2: ShapeRecord,
@@ -157,6 +162,98 @@ pub extern "C" fn separation_run(
         heap_key,
     );
     answer_of(outcome)
+}
+
+// What a run on rows by value answers, and the rows that it leaves.
+struct Ran {
+    answer: Answer,
+    rows: Rows,
+}
+
+fn run_rows(
+    pos12: Pose,
+    g1: ShapeRecord,
+    g2: ShapeRecord,
+    dir: Vec3,
+    max_dist: f32,
+    exact: bool,
+    vertices: &mut [f32],
+    pts: &mut [usize],
+    adj: &mut [usize],
+    nums: &mut [f32],
+    dead: &mut [u8],
+    rows: Rows,
+    heap_face: &mut [usize],
+    heap_key: &mut [f32],
+) -> Ran
+    requires { ⌜ (rows .n ≤ length (rows .faces)) × (rows .n ≤ length (rows .corners)) ⌝ }
+    ensures { λ r. ⌜ (finalBy (r .answer) (now (vertices .exit)) (now (pts .exit)) (now (adj .exit)) (now (nums .exit)) (now (dead .exit)) (take (rows .n) (r .rows .faces)) (take (rows .n) (r .rows .corners)) (now («heap_face» .exit)) (now («heap_key» .exit)) ≡ ran pos12 (shapeOf g1) (shapeOf g2) dir «max_dist» exact (now (vertices .entry)) (now (pts .entry)) (now (adj .entry)) (now (nums .entry)) (now (dead .entry)) (take (rows .n) (rows .faces)) (take (rows .n) (rows .corners)) (now («heap_face» .entry)) (now («heap_key» .entry))) × (r .rows .n ≡ rows .n) ⌝ }
+{
+    let mut faces = rows.faces;
+    let mut corners = rows.corners;
+    let n = rows.n;
+    let answer = run_columns(
+        pos12,
+        g1,
+        g2,
+        dir,
+        max_dist,
+        exact,
+        vertices,
+        pts,
+        adj,
+        nums,
+        dead,
+        &mut faces[..n],
+        &mut corners[..n],
+        heap_face,
+        heap_key,
+    );
+    Ran {
+        answer,
+        rows: Rows { faces, corners, n },
+    }
+}
+
+// The rows are the first records of the lent store, and go back over them.
+#[no_mangle]
+pub extern "C" fn separation_run(
+    pos12: Pose,
+    g1: ShapeRecord,
+    g2: ShapeRecord,
+    dir: Vec3,
+    max_dist: f32,
+    exact: bool,
+    vertices: &mut [f32],
+    pts: &mut [usize],
+    adj: &mut [usize],
+    nums: &mut [f32],
+    dead: &mut [u8],
+    edges: &mut [Edge],
+    heap_face: &mut [usize],
+    heap_key: &mut [f32],
+) -> Answer
+    ensures { λ r. ⌜ finalEdges r (now (vertices .exit)) (now (pts .exit)) (now (adj .exit)) (now (nums .exit)) (now (dead .exit)) (now (edges .exit)) (now («heap_face» .exit)) (now («heap_key» .exit)) ≡ ranEdges pos12 (shapeOf g1) (shapeOf g2) dir «max_dist» exact (now (vertices .entry)) (now (pts .entry)) (now (adj .entry)) (now (nums .entry)) (now (dead .entry)) (now (edges .entry)) (now («heap_face» .entry)) (now («heap_key» .entry)) ⌝ }
+{
+    let rows = edges::rows_of(edges);
+    let ran = run_rows(
+        pos12,
+        g1,
+        g2,
+        dir,
+        max_dist,
+        exact,
+        vertices,
+        pts,
+        adj,
+        nums,
+        dead,
+        rows,
+        heap_face,
+        heap_key,
+    );
+    edges::publish(edges, ran.rows);
+    ran.answer
 }
 
 #[no_mangle]

@@ -1,0 +1,4 @@
+pub mod Calling
+pub mod Laws
+pub mod Over
+pub mod Shared
