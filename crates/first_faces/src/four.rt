@@ -1,8 +1,10 @@
 // The four faces of a start from four vertices (from "Initialization" of `EPA::closest_points`).
 ghost use mathlib.Core.Path.{_≡_};
+ghost use mathlib.Core.Bool.{cond};
 ghost use lib.Ieee.{binary32};
 ghost use Rattle.polytope.specs.Polytope.{exchanged, windsOut};
-ghost use Rattle.first_faces.specs.Contracts.{FourFaces, QueuesStart, QueuesFour, StartsFour};
+ghost use Rattle.first_faces.specs.Contracts.{FourFaces, QueuesStart, QueuesTwo, QueuesFour, StartsFour};
+use crate::pairs::push_two;
 use polytope::End;
 use polytope::Lost;
 use polytope::Made;
@@ -11,7 +13,6 @@ use polytope::Run;
 use polytope::Step;
 use polytope::Three;
 use pushes::made_of;
-use pushes::push_face;
 use pushes::queue_face;
 use silhouette::normal_of;
 use silhouette::put_vertex;
@@ -38,6 +39,15 @@ fn exchange(vertices: &mut [f32])
     put_vertex(vertices, 2, v1);
 }
 
+// Four vertices that wind out are made to wind in.
+fn wind_in(vertices: &mut [f32])
+    ensures { λ r. ⌜ now (vertices .exit) ≡ cond (windsOut binary32 (now (vertices .entry))) (exchanged (now (vertices .entry))) (now (vertices .entry)) ⌝ }
+{
+    if winds_out(vertices) {
+        exchange(vertices);
+    }
+}
+
 // Four faces, each the neighbour of the others.
 fn four_faces(
     pts: &mut [usize],
@@ -61,19 +71,37 @@ fn four_faces(
     let adj2 = Three { a: 3, b: 2, c: 0 };
     let adj3 = Three { a: 0, b: 1, c: 3 };
     let adj4 = Three { a: 2, b: 1, c: 0 };
-    let s1 = push_face(pts, adj, nums, dead, rooms, run, pts1, adj1, m1);
+    let s1 = push_two(
+        pts,
+        adj,
+        nums,
+        dead,
+        rooms,
+        run,
+        pts1,
+        adj1,
+        m1,
+        pts2,
+        adj2,
+        m2,
+    );
     let Step::Onward(run1) = s1 else {
         return s1;
     };
-    let s2 = push_face(pts, adj, nums, dead, rooms, run1, pts2, adj2, m2);
-    let Step::Onward(run2) = s2 else {
-        return s2;
-    };
-    let s3 = push_face(pts, adj, nums, dead, rooms, run2, pts3, adj3, m3);
-    let Step::Onward(run3) = s3 else {
-        return s3;
-    };
-    push_face(pts, adj, nums, dead, rooms, run3, pts4, adj4, m4)
+    push_two(
+        pts,
+        adj,
+        nums,
+        dead,
+        rooms,
+        run1,
+        pts3,
+        adj3,
+        m3,
+        pts4,
+        adj4,
+        m4,
+    )
 }
 
 // A starting face is queued if it holds the projection, by its distance at the vertex of its own number.
@@ -106,6 +134,49 @@ fn queue_start(
     Step::Onward(run)
 }
 
+// Two starting faces, one after the other; the second is left where the first ends the run.
+fn queue_two(
+    vertices: &[f32],
+    nums: &[f32],
+    heap_face: &mut [usize],
+    heap_key: &mut [f32],
+    rooms: Rooms,
+    run: Run,
+    tol: f32,
+    first: usize,
+    h1: bool,
+    second: usize,
+    h2: bool,
+) -> Step
+    ensures { λ r. ⌜ QueuesTwo rooms run tol first h1 second h2 (now (vertices .entry)) (now (nums .entry)) (now («heap_face» .entry)) (now («heap_key» .entry)) (now («heap_face» .exit)) (now («heap_key» .exit)) r ⌝ }
+{
+    let s1 = queue_start(
+        vertices,
+        nums,
+        heap_face,
+        heap_key,
+        rooms,
+        run,
+        tol,
+        first,
+        h1,
+    );
+    let Step::Onward(run1) = s1 else {
+        return s1;
+    };
+    queue_start(
+        vertices,
+        nums,
+        heap_face,
+        heap_key,
+        rooms,
+        run1,
+        tol,
+        second,
+        h2,
+    )
+}
+
 // Those of the four faces that hold the projection are queued; one has to.
 fn queue_four(
     vertices: &[f32],
@@ -122,26 +193,42 @@ fn queue_four(
 ) -> Step
     ensures { λ r. ⌜ QueuesFour rooms run tol h1 h2 h3 h4 (now (vertices .entry)) (now (nums .entry)) (now («heap_face» .entry)) (now («heap_key» .entry)) (now («heap_face» .exit)) (now («heap_key» .exit)) r ⌝ }
 {
-    let s1 = queue_start(vertices, nums, heap_face, heap_key, rooms, run, tol, 0, h1);
+    let s1 = queue_two(
+        vertices,
+        nums,
+        heap_face,
+        heap_key,
+        rooms,
+        run,
+        tol,
+        0,
+        h1,
+        1,
+        h2,
+    );
     let Step::Onward(run1) = s1 else {
         return s1;
     };
-    let s2 = queue_start(vertices, nums, heap_face, heap_key, rooms, run1, tol, 1, h2);
+    let s2 = queue_two(
+        vertices,
+        nums,
+        heap_face,
+        heap_key,
+        rooms,
+        run1,
+        tol,
+        2,
+        h3,
+        3,
+        h4,
+    );
     let Step::Onward(run2) = s2 else {
         return s2;
     };
-    let s3 = queue_start(vertices, nums, heap_face, heap_key, rooms, run2, tol, 2, h3);
-    let Step::Onward(run3) = s3 else {
-        return s3;
-    };
-    let s4 = queue_start(vertices, nums, heap_face, heap_key, rooms, run3, tol, 3, h4);
-    let Step::Onward(run4) = s4 else {
-        return s4;
-    };
     if h1 | h2 | h3 | h4 {
-        return Step::Onward(run4);
+        return Step::Onward(run2);
     }
-    Step::Ended(End::Nothing(Lost::NoneHolds), run4)
+    Step::Ended(End::Nothing(Lost::NoneHolds), run2)
 }
 
 // Four vertices: four faces.
@@ -159,9 +246,7 @@ pub fn start_four(
 ) -> Step
     ensures { λ r. ⌜ StartsFour rooms run tol (now (vertices .entry)) (now (pts .entry)) (now (adj .entry)) (now (nums .entry)) (now (dead .entry)) (now («heap_face» .entry)) (now («heap_key» .entry)) (now (vertices .exit)) (now (pts .exit)) (now (adj .exit)) (now (nums .exit)) (now (dead .exit)) (now («heap_face» .exit)) (now («heap_key» .exit)) r ⌝ }
 {
-    if winds_out(vertices) {
-        exchange(vertices);
-    }
+    wind_in(vertices);
     let m1 = made_of(vertices, 0, 1, 2);
     let m2 = made_of(vertices, 1, 3, 2);
     let m3 = made_of(vertices, 0, 2, 3);

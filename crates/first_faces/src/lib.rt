@@ -4,6 +4,7 @@ ghost use mathlib.Core.Path.{_≡_};
 ghost use Rattle.first_faces.specs.Contracts.{StartsFaces};
 
 mod four;
+mod pairs;
 mod two;
 
 use four::start_four;

@@ -3,7 +3,8 @@
 ghost use mathlib.Core.Path.{_≡_};
 ghost use lib.Ieee.{binary32};
 ghost use Rattle.polytope.specs.Polytope.{across};
-ghost use Rattle.first_faces.specs.Contracts.{Thirds, TwoFaces, StartsTwo};
+ghost use Rattle.first_faces.specs.Contracts.{Thirds, WithThird, QueuesBoth, TwoFaces, StartsTwo};
+use crate::pairs::push_two;
 use polytope::End;
 use polytope::Lost;
 use polytope::Rooms;
@@ -12,7 +13,6 @@ use polytope::Site;
 use polytope::Step;
 use polytope::Three;
 use pushes::made_of;
-use pushes::push_face;
 use pushes::push_vertex;
 use pushes::queue_face;
 use shape::Shape;
@@ -45,6 +45,58 @@ fn third(vertices: &mut [f32], pos12: Pose, g1: Shape, g2: Shape, rooms: Rooms, 
     push_vertex(vertices, rooms, run, pt)
 }
 
+// Two vertices get a third; three are enough.
+fn with_third(
+    vertices: &mut [f32],
+    pos12: Pose,
+    g1: Shape,
+    g2: Shape,
+    rooms: Rooms,
+    run: Run,
+) -> Step
+    ensures { λ r. ⌜ WithThird pos12 g1 g2 rooms run (now (vertices .entry)) (now (vertices .exit)) r ⌝ }
+{
+    if run.vertices == 2 {
+        return third(vertices, pos12, g1, g2, rooms, run);
+    }
+    Step::Onward(run)
+}
+
+// Both faces are queued, in order; the Rust gives each the key 0, however far it lies.
+fn queue_both(
+    heap_face: &mut [usize],
+    heap_key: &mut [f32],
+    rooms: Rooms,
+    run: Run,
+    tol: f32,
+) -> Step
+    ensures { λ r. ⌜ QueuesBoth rooms run tol (now («heap_face» .entry)) (now («heap_key» .entry)) (now («heap_face» .exit)) (now («heap_key» .exit)) r ⌝ }
+{
+    let s1 = queue_face(
+        heap_face,
+        heap_key,
+        rooms,
+        run,
+        Lost::KeyAtStart,
+        tol,
+        0,
+        0.0,
+    );
+    let Step::Onward(run1) = s1 else {
+        return s1;
+    };
+    queue_face(
+        heap_face,
+        heap_key,
+        rooms,
+        run1,
+        Lost::KeyAtStart,
+        tol,
+        1,
+        0.0,
+    )
+}
+
 // Two faces, back to back.
 fn two_faces(
     vertices: &[f32],
@@ -66,37 +118,24 @@ fn two_faces(
     let pts2 = Three { a: 0, b: 2, c: 1 };
     let adj1 = Three { a: 1, b: 1, c: 1 };
     let adj2 = Three { a: 0, b: 0, c: 0 };
-    let s1 = push_face(pts, adj, nums, dead, rooms, run, pts1, adj1, m1);
-    let Step::Onward(run1) = s1 else {
-        return s1;
-    };
-    let s2 = push_face(pts, adj, nums, dead, rooms, run1, pts2, adj2, m2);
-    let Step::Onward(run2) = s2 else {
-        return s2;
-    };
-    let s3 = queue_face(
-        heap_face,
-        heap_key,
+    let made = push_two(
+        pts,
+        adj,
+        nums,
+        dead,
         rooms,
-        run2,
-        Lost::KeyAtStart,
-        tol,
-        0,
-        0.0,
+        run,
+        pts1,
+        adj1,
+        m1,
+        pts2,
+        adj2,
+        m2,
     );
-    let Step::Onward(run3) = s3 else {
-        return s3;
+    let Step::Onward(run1) = made else {
+        return made;
     };
-    queue_face(
-        heap_face,
-        heap_key,
-        rooms,
-        run3,
-        Lost::KeyAtStart,
-        tol,
-        1,
-        0.0,
-    )
+    queue_both(heap_face, heap_key, rooms, run1, tol)
 }
 
 // Two or three vertices: two faces.
@@ -117,24 +156,10 @@ pub fn start_two(
 ) -> Step
     ensures { λ r. ⌜ StartsTwo pos12 g1 g2 rooms run tol (now (vertices .entry)) (now (pts .entry)) (now (adj .entry)) (now (nums .entry)) (now (dead .entry)) (now («heap_face» .entry)) (now («heap_key» .entry)) (now (vertices .exit)) (now (pts .exit)) (now (adj .exit)) (now (nums .exit)) (now (dead .exit)) (now («heap_face» .exit)) (now («heap_key» .exit)) r ⌝ }
 {
-    if run.vertices == 2 {
-        let grown = third(vertices, pos12, g1, g2, rooms, run);
-        let Step::Onward(run1) = grown else {
-            return grown;
-        };
-        return two_faces(
-            vertices,
-            pts,
-            adj,
-            nums,
-            dead,
-            heap_face,
-            heap_key,
-            rooms,
-            run1,
-            tol,
-        );
-    }
+    let grown = with_third(vertices, pos12, g1, g2, rooms, run);
+    let Step::Onward(run1) = grown else {
+        return grown;
+    };
     two_faces(
         vertices,
         pts,
@@ -144,7 +169,7 @@ pub fn start_two(
         heap_face,
         heap_key,
         rooms,
-        run,
+        run1,
         tol,
     )
 }

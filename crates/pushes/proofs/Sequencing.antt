@@ -11,7 +11,7 @@ use Rattle.polytope.specs.declared.types.Made.{Made}
 use Rattle.polytope.specs.declared.types.End.{End}
 use Rattle.polytope.specs.declared.types.Step.{Step}
 use Rattle.polytope.specs.declared.types.Step.the-variants.{Onward, Ended}
-use Rattle.polytope.specs.Polytope.{State, Out, Act, Nil, stepOut, World, onward, ended, next, stopIf, branch, doIf, pushFace, pushVertex, fourFaces, third, _>>_}
+use Rattle.polytope.specs.Polytope.{State, Out, Act, Nil, stepOut, onward, ended, next, stopIf, branch, doIf, pushFace, fourFaces, _>>_}
 use Rattle.pushes.specs.Contracts.{heapRoom}
 
 module _ (a b : Act Nil) (s : State) (lists : Run → State) {r : Step} {x : Run} (does : stepOut lists r ≡ a s) where
@@ -65,16 +65,7 @@ pub kept-room : (step : Rooms → Act Nil) (rooms : Rooms) (hf hf0 : List ℕ) (
     → o ≡ step (heapRoom rooms hf hk) s → o ≡ step (heapRoom rooms hf0 hk0) s
 kept-room step rooms hf hf0 hk hk0 s kf kk g = g ∙ ap (λ (x : Rooms). step x s) (rw (kf, kk))
 
--- a face is pushed whatever the heap's room
-pub face-in-room : (rooms : Rooms) (hf : List ℕ) (hk : List Float) (ps ns : List ℕ) (m : Made) (s : State) → pushFace rooms ps ns m s ≡ pushFace (heapRoom rooms hf hk) ps ns m s
-unfolding pushFace
-face-in-room rooms hf hk ps ns m s = refl
-
+-- four faces are pushed whatever the heap's room
 pub four-in-room : (rooms : Rooms) (hf : List ℕ) (hk : List Float) (m1 m2 m3 m4 : Made) (s : State) → fourFaces rooms m1 m2 m3 m4 s ≡ fourFaces (heapRoom rooms hf hk) m1 m2 m3 m4 s
 unfolding fourFaces pushFace
 four-in-room rooms hf hk m1 m2 m3 m4 s = refl
-
--- and so is a third vertex
-pub third-in-room : (w : World) (rooms : Rooms) (hf : List ℕ) (hk : List Float) (s : State) → third w rooms s ≡ third w (heapRoom rooms hf hk) s
-unfolding third pushVertex
-third-in-room w rooms hf hk s = refl

@@ -1,143 +1,64 @@
--- `queue_four` does what `queueFour` does: four faces are queued or left, and one has to hold. Assumes nothing.
+-- `queue_four` does what `queueFour` does: two pairs are queued or left, and one of the four has to hold. Assumes nothing.
 use borrow.Author.Needs.{needs}
 use mathlib.Core.Path.{_∙_}
-use lib.Ieee.{binary32}
-use Rattle.polytope.specs.Polytope.{worldOf, queueStart, queueFour}
-use Rattle.pushes.proofs.Sequencing.{goes-on, ends-here, kept-room, not-stopped, stopped}
+use Rattle.first_faces.proofs.Starting.{first-pair-ends, second-pair-ends, one-holds, none-holds}
 use Rattle.first_faces.proofs.four.queue_four.Statement.{statement}
 use Rattle.first_faces.proofs.four.queue_four.Tie as tie
 
+-- where the calls have returned, from where the function does
+abbrev ended : tie.After-enum-told → tie.After-queue-two
+ended c = c .before .before .before .before .before .before
+
+abbrev second-ended : tie.After-enum-told2 → tie.After-queue-two2
+second-ended c = c .before .before .before .before .before .before
+
+abbrev second : tie.After-s2 → tie.After-queue-two2
+second c = c .before .before .before .before .before .before
+
+abbrev first : tie.After-queue-two2 → tie.After-queue-two
+first c = c .before .before .before .before .before .before .before .before .before .before
+
 returns : tie.Need-returns
-unfolding queueFour
-returns c supp p a0 d ef ec = let a = c .before .before .before .before .before .before .before .before .before .before .before .before .before .args in ends-here _ _ _ _ (c .before .before .before .before .before .before .queue-start .ensures supp p a0 d ef ec) (c .enum-told .given .1)
+returns c =
+    let at-queue-two = ended c in
+    let x = at-queue-two .before .before .before .before .before .before .before .args in
+    let l = at-queue-two .queue-two .last .1 .1 in
+    first-pair-ends (x .rooms) (x .run) (x .tol) (x .h1) (x .h2) (x .h3) (x .h4) (x .vertices .now) (x .nums .now) (x .heap-face .now) (x .heap-key .now) (l .0) (l .1 .0) (at-queue-two .queue-two .result) (at-queue-two .queue-two .ensures) (c .enum-told .given .1)
 
 returns-2 : tie.Need-returns-2
-unfolding queueFour
-returns-2 c supp p a0 d ef ec =
-    let at-queue-start2 = c .before .before .before .before .before .before in
-    let at-s1 = at-queue-start2 .before .before .before .before in
-    let at-queue-start = at-s1 .before .before .before .before .before .before in
-    let at-start = at-queue-start .before .before .before .before .before .before .before in
-    let a = at-start .args in
-    goes-on _ _ _ _ (at-queue-start .queue-start .ensures supp p a0 d ef ec) (at-s1 .s1 .given .1) (ends-here _ _ _ _ (kept-room (λ x. queueStart (worldOf binary32 supp) x (a .tol) 1 (a .h2)) (a .rooms) (at-queue-start .queue-start .last .1 .1 .0) (a .heap-face .now) (at-queue-start .queue-start .last .1 .1 .1 .0) (a .heap-key .now) _ (at-queue-start .queue-start .kept .1 .1 .0) (at-queue-start .queue-start .kept .1 .1 .1 .0) (at-queue-start2 .queue-start2 .ensures supp p a0 d ef ec)) (c .enum-told2 .given .1))
-
-same-length-5 : tie.Need-same-length-5
-same-length-5 c =
-    let at-queue-start3 = c .before .before .before .before .before .before in
-    let at-queue-start2 = at-queue-start3 .before .before .before .before .before .before .before .before .before .before in
-    let at-queue-start = at-queue-start2 .before .before .before .before .before .before .before .before .before .before in
-    at-queue-start3 .queue-start3 .kept .1 .1 .0 ∙ at-queue-start2 .queue-start2 .kept .1 .1 .0 ∙ at-queue-start .queue-start .kept .1 .1 .0
-
-same-length-6 : tie.Need-same-length-6
-same-length-6 c =
-    let at-queue-start3 = c .before .before .before .before .before .before in
-    let at-queue-start2 = at-queue-start3 .before .before .before .before .before .before .before .before .before .before in
-    let at-queue-start = at-queue-start2 .before .before .before .before .before .before .before .before .before .before in
-    at-queue-start3 .queue-start3 .kept .1 .1 .1 .0 ∙ at-queue-start2 .queue-start2 .kept .1 .1 .1 .0 ∙ at-queue-start .queue-start .kept .1 .1 .1 .0
+returns-2 c =
+    let at-queue-two2 = second-ended c in
+    let at-s1 = at-queue-two2 .before .before .before .before in
+    let at-queue-two = first at-queue-two2 in
+    let x = at-queue-two .before .before .before .before .before .before .before .args in
+    let l = at-queue-two .queue-two .last .1 .1 in
+    let l2 = at-queue-two2 .queue-two2 .last .1 .1 in
+    let kept = at-queue-two .queue-two .kept .1 .1 in
+    second-pair-ends (x .rooms) (x .run) (x .tol) (x .h1) (x .h2) (x .h3) (x .h4) (x .vertices .now) (x .nums .now) (x .heap-face .now) (x .heap-key .now) (l .0) (l .1 .0) (at-queue-two .queue-two .result) (at-queue-two .queue-two .ensures) (at-s1 .s1 .given .1) (kept .0) (kept .1 .0) (l2 .0) (l2 .1 .0) (at-queue-two2 .queue-two2 .result) (at-queue-two2 .queue-two2 .ensures) (c .enum-told2 .given .1)
 
 returns-3 : tie.Need-returns-3
-unfolding queueFour
-returns-3 c supp p a0 d ef ec =
-    let at-queue-start3 = c .before .before .before .before .before .before in
-    let at-s2 = at-queue-start3 .before .before .before .before in
-    let at-queue-start2 = at-s2 .before .before .before .before .before .before in
-    let at-s1 = at-queue-start2 .before .before .before .before in
-    let at-queue-start = at-s1 .before .before .before .before .before .before in
-    let at-start = at-queue-start .before .before .before .before .before .before .before in
-    let a = at-start .args in
-    goes-on _ _ _ _ (at-queue-start .queue-start .ensures supp p a0 d ef ec) (at-s1 .s1 .given .1) (goes-on _ _ _ _ (kept-room (λ x. queueStart (worldOf binary32 supp) x (a .tol) 1 (a .h2)) (a .rooms) (at-queue-start .queue-start .last .1 .1 .0) (a .heap-face .now) (at-queue-start .queue-start .last .1 .1 .1 .0) (a .heap-key .now) _ (at-queue-start .queue-start .kept .1 .1 .0) (at-queue-start .queue-start .kept .1 .1 .1 .0) (at-queue-start2 .queue-start2 .ensures supp p a0 d ef ec)) (at-s2 .s2 .given .1) (ends-here _ _ _ _ (kept-room (λ x. queueStart (worldOf binary32 supp) x (a .tol) 2 (a .h3)) (a .rooms) (at-queue-start2 .queue-start2 .last .1 .1 .0) (a .heap-face .now) (at-queue-start2 .queue-start2 .last .1 .1 .1 .0) (a .heap-key .now) _ (at-queue-start2 .queue-start2 .kept .1 .1 .0 ∙ at-queue-start .queue-start .kept .1 .1 .0) (at-queue-start2 .queue-start2 .kept .1 .1 .1 .0 ∙ at-queue-start .queue-start .kept .1 .1 .1 .0) (at-queue-start3 .queue-start3 .ensures supp p a0 d ef ec)) (c .enum-told3 .given .1)))
-
-same-length-7 : tie.Need-same-length-7
-same-length-7 c =
-    let at-queue-start4 = c .before .before .before .before .before .before in
-    let at-queue-start3 = at-queue-start4 .before .before .before .before .before .before .before .before .before .before in
-    let at-queue-start2 = at-queue-start3 .before .before .before .before .before .before .before .before .before .before in
-    let at-queue-start = at-queue-start2 .before .before .before .before .before .before .before .before .before .before in
-    at-queue-start4 .queue-start4 .kept .1 .1 .0 ∙ at-queue-start3 .queue-start3 .kept .1 .1 .0 ∙ at-queue-start2 .queue-start2 .kept .1 .1 .0 ∙ at-queue-start .queue-start .kept .1 .1 .0
-
-same-length-8 : tie.Need-same-length-8
-same-length-8 c =
-    let at-queue-start4 = c .before .before .before .before .before .before in
-    let at-queue-start3 = at-queue-start4 .before .before .before .before .before .before .before .before .before .before in
-    let at-queue-start2 = at-queue-start3 .before .before .before .before .before .before .before .before .before .before in
-    let at-queue-start = at-queue-start2 .before .before .before .before .before .before .before .before .before .before in
-    at-queue-start4 .queue-start4 .kept .1 .1 .1 .0 ∙ at-queue-start3 .queue-start3 .kept .1 .1 .1 .0 ∙ at-queue-start2 .queue-start2 .kept .1 .1 .1 .0 ∙ at-queue-start .queue-start .kept .1 .1 .1 .0
+returns-3 c =
+    let at-s2 = c .before .before in
+    let at-queue-two2 = second at-s2 in
+    let at-s1 = at-queue-two2 .before .before .before .before in
+    let at-queue-two = first at-queue-two2 in
+    let x = at-queue-two .before .before .before .before .before .before .before .args in
+    let l = at-queue-two .queue-two .last .1 .1 in
+    let l2 = at-queue-two2 .queue-two2 .last .1 .1 in
+    let kept = at-queue-two .queue-two .kept .1 .1 in
+    one-holds (x .rooms) (x .run) (x .tol) (x .h1) (x .h2) (x .h3) (x .h4) (x .vertices .now) (x .nums .now) (x .heap-face .now) (x .heap-key .now) (l .0) (l .1 .0) (at-queue-two .queue-two .result) (at-queue-two .queue-two .ensures) (at-s1 .s1 .given .1) (kept .0) (kept .1 .0) (l2 .0) (l2 .1 .0) (at-queue-two2 .queue-two2 .result) (at-queue-two2 .queue-two2 .ensures) (at-s2 .s2 .given .1) (c .if1 .taken)
 
 returns-4 : tie.Need-returns-4
-unfolding queueFour
-returns-4 c supp p a0 d ef ec =
-    let at-queue-start4 = c .before .before .before .before .before .before in
-    let at-s3 = at-queue-start4 .before .before .before .before in
-    let at-queue-start3 = at-s3 .before .before .before .before .before .before in
-    let at-s2 = at-queue-start3 .before .before .before .before in
-    let at-queue-start2 = at-s2 .before .before .before .before .before .before in
-    let at-s1 = at-queue-start2 .before .before .before .before in
-    let at-queue-start = at-s1 .before .before .before .before .before .before in
-    let at-start = at-queue-start .before .before .before .before .before .before .before in
-    let a = at-start .args in
-    goes-on _ _ _ _ (at-queue-start .queue-start .ensures supp p a0 d ef ec) (at-s1 .s1 .given .1) (goes-on _ _ _ _ (kept-room (λ x. queueStart (worldOf binary32 supp) x (a .tol) 1 (a .h2)) (a .rooms) (at-queue-start .queue-start .last .1 .1 .0) (a .heap-face .now) (at-queue-start .queue-start .last .1 .1 .1 .0) (a .heap-key .now) _ (at-queue-start .queue-start .kept .1 .1 .0) (at-queue-start .queue-start .kept .1 .1 .1 .0) (at-queue-start2 .queue-start2 .ensures supp p a0 d ef ec)) (at-s2 .s2 .given .1) (goes-on _ _ _ _ (kept-room (λ x. queueStart (worldOf binary32 supp) x (a .tol) 2 (a .h3)) (a .rooms) (at-queue-start2 .queue-start2 .last .1 .1 .0) (a .heap-face .now) (at-queue-start2 .queue-start2 .last .1 .1 .1 .0) (a .heap-key .now) _ (at-queue-start2 .queue-start2 .kept .1 .1 .0 ∙ at-queue-start .queue-start .kept .1 .1 .0) (at-queue-start2 .queue-start2 .kept .1 .1 .1 .0 ∙ at-queue-start .queue-start .kept .1 .1 .1 .0) (at-queue-start3 .queue-start3 .ensures supp p a0 d ef ec)) (at-s3 .s3 .given .1) (ends-here _ _ _ _ (kept-room (λ x. queueStart (worldOf binary32 supp) x (a .tol) 3 (a .h4)) (a .rooms) (at-queue-start3 .queue-start3 .last .1 .1 .0) (a .heap-face .now) (at-queue-start3 .queue-start3 .last .1 .1 .1 .0) (a .heap-key .now) _ (at-queue-start3 .queue-start3 .kept .1 .1 .0 ∙ at-queue-start2 .queue-start2 .kept .1 .1 .0 ∙ at-queue-start .queue-start .kept .1 .1 .0) (at-queue-start3 .queue-start3 .kept .1 .1 .1 .0 ∙ at-queue-start2 .queue-start2 .kept .1 .1 .1 .0 ∙ at-queue-start .queue-start .kept .1 .1 .1 .0) (at-queue-start4 .queue-start4 .ensures supp p a0 d ef ec)) (c .enum-told4 .given .1))))
-
-same-length-9 : tie.Need-same-length-9
-same-length-9 c =
-    let at-queue-start4 = c .before .before .before .before .before .before .before .before in
-    let at-queue-start3 = at-queue-start4 .before .before .before .before .before .before .before .before .before .before in
-    let at-queue-start2 = at-queue-start3 .before .before .before .before .before .before .before .before .before .before in
-    let at-queue-start = at-queue-start2 .before .before .before .before .before .before .before .before .before .before in
-    at-queue-start4 .queue-start4 .kept .1 .1 .0 ∙ at-queue-start3 .queue-start3 .kept .1 .1 .0 ∙ at-queue-start2 .queue-start2 .kept .1 .1 .0 ∙ at-queue-start .queue-start .kept .1 .1 .0
-
-same-length-10 : tie.Need-same-length-10
-same-length-10 c =
-    let at-queue-start4 = c .before .before .before .before .before .before .before .before in
-    let at-queue-start3 = at-queue-start4 .before .before .before .before .before .before .before .before .before .before in
-    let at-queue-start2 = at-queue-start3 .before .before .before .before .before .before .before .before .before .before in
-    let at-queue-start = at-queue-start2 .before .before .before .before .before .before .before .before .before .before in
-    at-queue-start4 .queue-start4 .kept .1 .1 .1 .0 ∙ at-queue-start3 .queue-start3 .kept .1 .1 .1 .0 ∙ at-queue-start2 .queue-start2 .kept .1 .1 .1 .0 ∙ at-queue-start .queue-start .kept .1 .1 .1 .0
-
-returns-5 : tie.Need-returns-5
-unfolding queueFour
-returns-5 c supp p a0 d ef ec =
-    let at-s4 = c .before .before in
-    let at-queue-start4 = at-s4 .before .before .before .before .before .before in
-    let at-s3 = at-queue-start4 .before .before .before .before in
-    let at-queue-start3 = at-s3 .before .before .before .before .before .before in
-    let at-s2 = at-queue-start3 .before .before .before .before in
-    let at-queue-start2 = at-s2 .before .before .before .before .before .before in
-    let at-s1 = at-queue-start2 .before .before .before .before in
-    let at-queue-start = at-s1 .before .before .before .before .before .before in
-    let at-start = at-queue-start .before .before .before .before .before .before .before in
-    let a = at-start .args in
-    goes-on _ _ _ _ (at-queue-start .queue-start .ensures supp p a0 d ef ec) (at-s1 .s1 .given .1) (goes-on _ _ _ _ (kept-room (λ x. queueStart (worldOf binary32 supp) x (a .tol) 1 (a .h2)) (a .rooms) (at-queue-start .queue-start .last .1 .1 .0) (a .heap-face .now) (at-queue-start .queue-start .last .1 .1 .1 .0) (a .heap-key .now) _ (at-queue-start .queue-start .kept .1 .1 .0) (at-queue-start .queue-start .kept .1 .1 .1 .0) (at-queue-start2 .queue-start2 .ensures supp p a0 d ef ec)) (at-s2 .s2 .given .1) (goes-on _ _ _ _ (kept-room (λ x. queueStart (worldOf binary32 supp) x (a .tol) 2 (a .h3)) (a .rooms) (at-queue-start2 .queue-start2 .last .1 .1 .0) (a .heap-face .now) (at-queue-start2 .queue-start2 .last .1 .1 .1 .0) (a .heap-key .now) _ (at-queue-start2 .queue-start2 .kept .1 .1 .0 ∙ at-queue-start .queue-start .kept .1 .1 .0) (at-queue-start2 .queue-start2 .kept .1 .1 .1 .0 ∙ at-queue-start .queue-start .kept .1 .1 .1 .0) (at-queue-start3 .queue-start3 .ensures supp p a0 d ef ec)) (at-s3 .s3 .given .1) (goes-on _ _ _ _ (kept-room (λ x. queueStart (worldOf binary32 supp) x (a .tol) 3 (a .h4)) (a .rooms) (at-queue-start3 .queue-start3 .last .1 .1 .0) (a .heap-face .now) (at-queue-start3 .queue-start3 .last .1 .1 .1 .0) (a .heap-key .now) _ (at-queue-start3 .queue-start3 .kept .1 .1 .0 ∙ at-queue-start2 .queue-start2 .kept .1 .1 .0 ∙ at-queue-start .queue-start .kept .1 .1 .0) (at-queue-start3 .queue-start3 .kept .1 .1 .1 .0 ∙ at-queue-start2 .queue-start2 .kept .1 .1 .1 .0 ∙ at-queue-start .queue-start .kept .1 .1 .1 .0) (at-queue-start4 .queue-start4 .ensures supp p a0 d ef ec)) (at-s4 .s4 .given .1) (not-stopped _ _ (c .if1 .taken)))))
-
-same-length-11 : tie.Need-same-length-11
-same-length-11 c =
-    let at-queue-start4 = c .before .before .before .before .before .before .before .before in
-    let at-queue-start3 = at-queue-start4 .before .before .before .before .before .before .before .before .before .before in
-    let at-queue-start2 = at-queue-start3 .before .before .before .before .before .before .before .before .before .before in
-    let at-queue-start = at-queue-start2 .before .before .before .before .before .before .before .before .before .before in
-    at-queue-start4 .queue-start4 .kept .1 .1 .0 ∙ at-queue-start3 .queue-start3 .kept .1 .1 .0 ∙ at-queue-start2 .queue-start2 .kept .1 .1 .0 ∙ at-queue-start .queue-start .kept .1 .1 .0
-
-same-length-12 : tie.Need-same-length-12
-same-length-12 c =
-    let at-queue-start4 = c .before .before .before .before .before .before .before .before in
-    let at-queue-start3 = at-queue-start4 .before .before .before .before .before .before .before .before .before .before in
-    let at-queue-start2 = at-queue-start3 .before .before .before .before .before .before .before .before .before .before in
-    let at-queue-start = at-queue-start2 .before .before .before .before .before .before .before .before .before .before in
-    at-queue-start4 .queue-start4 .kept .1 .1 .1 .0 ∙ at-queue-start3 .queue-start3 .kept .1 .1 .1 .0 ∙ at-queue-start2 .queue-start2 .kept .1 .1 .1 .0 ∙ at-queue-start .queue-start .kept .1 .1 .1 .0
-
-returns-6 : tie.Need-returns-6
-unfolding queueFour
-returns-6 c supp p a0 d ef ec =
-    let at-s4 = c .before .before in
-    let at-queue-start4 = at-s4 .before .before .before .before .before .before in
-    let at-s3 = at-queue-start4 .before .before .before .before in
-    let at-queue-start3 = at-s3 .before .before .before .before .before .before in
-    let at-s2 = at-queue-start3 .before .before .before .before in
-    let at-queue-start2 = at-s2 .before .before .before .before .before .before in
-    let at-s1 = at-queue-start2 .before .before .before .before in
-    let at-queue-start = at-s1 .before .before .before .before .before .before in
-    let at-start = at-queue-start .before .before .before .before .before .before .before in
-    let a = at-start .args in
-    goes-on _ _ _ _ (at-queue-start .queue-start .ensures supp p a0 d ef ec) (at-s1 .s1 .given .1) (goes-on _ _ _ _ (kept-room (λ x. queueStart (worldOf binary32 supp) x (a .tol) 1 (a .h2)) (a .rooms) (at-queue-start .queue-start .last .1 .1 .0) (a .heap-face .now) (at-queue-start .queue-start .last .1 .1 .1 .0) (a .heap-key .now) _ (at-queue-start .queue-start .kept .1 .1 .0) (at-queue-start .queue-start .kept .1 .1 .1 .0) (at-queue-start2 .queue-start2 .ensures supp p a0 d ef ec)) (at-s2 .s2 .given .1) (goes-on _ _ _ _ (kept-room (λ x. queueStart (worldOf binary32 supp) x (a .tol) 2 (a .h3)) (a .rooms) (at-queue-start2 .queue-start2 .last .1 .1 .0) (a .heap-face .now) (at-queue-start2 .queue-start2 .last .1 .1 .1 .0) (a .heap-key .now) _ (at-queue-start2 .queue-start2 .kept .1 .1 .0 ∙ at-queue-start .queue-start .kept .1 .1 .0) (at-queue-start2 .queue-start2 .kept .1 .1 .1 .0 ∙ at-queue-start .queue-start .kept .1 .1 .1 .0) (at-queue-start3 .queue-start3 .ensures supp p a0 d ef ec)) (at-s3 .s3 .given .1) (goes-on _ _ _ _ (kept-room (λ x. queueStart (worldOf binary32 supp) x (a .tol) 3 (a .h4)) (a .rooms) (at-queue-start3 .queue-start3 .last .1 .1 .0) (a .heap-face .now) (at-queue-start3 .queue-start3 .last .1 .1 .1 .0) (a .heap-key .now) _ (at-queue-start3 .queue-start3 .kept .1 .1 .0 ∙ at-queue-start2 .queue-start2 .kept .1 .1 .0 ∙ at-queue-start .queue-start .kept .1 .1 .0) (at-queue-start3 .queue-start3 .kept .1 .1 .1 .0 ∙ at-queue-start2 .queue-start2 .kept .1 .1 .1 .0 ∙ at-queue-start .queue-start .kept .1 .1 .1 .0) (at-queue-start4 .queue-start4 .ensures supp p a0 d ef ec)) (at-s4 .s4 .given .1) (stopped _ _ (c .if1 .left)))))
+returns-4 c =
+    let at-s2 = c .before .before in
+    let at-queue-two2 = second at-s2 in
+    let at-s1 = at-queue-two2 .before .before .before .before in
+    let at-queue-two = first at-queue-two2 in
+    let x = at-queue-two .before .before .before .before .before .before .before .args in
+    let l = at-queue-two .queue-two .last .1 .1 in
+    let l2 = at-queue-two2 .queue-two2 .last .1 .1 in
+    let kept = at-queue-two .queue-two .kept .1 .1 in
+    none-holds (x .rooms) (x .run) (x .tol) (x .h1) (x .h2) (x .h3) (x .h4) (x .vertices .now) (x .nums .now) (x .heap-face .now) (x .heap-key .now) (l .0) (l .1 .0) (at-queue-two .queue-two .result) (at-queue-two .queue-two .ensures) (at-s1 .s1 .given .1) (kept .0) (kept .1 .0) (l2 .0) (l2 .1 .0) (at-queue-two2 .queue-two2 .result) (at-queue-two2 .queue-two2 .ensures) (at-s2 .s2 .given .1) (c .if1 .left)
 
 pub queue-four-spec : {M : Type 1} → statement M
-queue-four-spec = tie.close (tie.spec (λ c κs. tt) (λ c. search needs) (λ c. search needs) (λ c. search needs) (λ c. search needs) returns (λ c κs. tt) (λ c. search needs) (λ c. search needs) (λ c. search needs) (λ c. search needs) returns-2 (λ c κs. tt) (λ c. search needs) (λ c. search needs) same-length-5 same-length-6 returns-3 (λ c κs. tt) (λ c. search needs) (λ c. search needs) same-length-7 same-length-8 returns-4 same-length-9 same-length-10 returns-5 same-length-11 same-length-12 returns-6)
+queue-four-spec = tie.close (tie.spec (λ c κs. tt) (λ c. search needs) (λ c. search needs) (λ c. ended c .queue-two .kept .1 .1 .0) (λ c. ended c .queue-two .kept .1 .1 .1 .0) returns (λ c κs. tt) (λ c. search needs) (λ c. search needs) (λ c. second-ended c .queue-two2 .kept .1 .1 .0 ∙ first (second-ended c) .queue-two .kept .1 .1 .0) (λ c. second-ended c .queue-two2 .kept .1 .1 .1 .0 ∙ first (second-ended c) .queue-two .kept .1 .1 .1 .0) returns-2 (λ c. second (c .before .before) .queue-two2 .kept .1 .1 .0 ∙ first (second (c .before .before)) .queue-two .kept .1 .1 .0) (λ c. second (c .before .before) .queue-two2 .kept .1 .1 .1 .0 ∙ first (second (c .before .before)) .queue-two .kept .1 .1 .1 .0) returns-3 (λ c. second (c .before .before) .queue-two2 .kept .1 .1 .0 ∙ first (second (c .before .before)) .queue-two .kept .1 .1 .0) (λ c. second (c .before .before) .queue-two2 .kept .1 .1 .1 .0 ∙ first (second (c .before .before)) .queue-two .kept .1 .1 .1 .0) returns-4)

@@ -1,55 +1,48 @@
 -- `start_four` does what `startFour` does. Assumes nothing.
 use borrow.Author.Needs.{needs}
-use mathlib.Core.Path.{_≡_, sym, ap, _∙_}
-use mathlib.Core.Bool.{cond}
-use mathlib.Core.Logic.{⊎-elim}
-use lib.ListN.{length}
-use lib.Ieee.{binary32}
-use Rattle.polytope.specs.Polytope.{windsOut, exchanged}
-use Rattle.pushes.specs.Contracts.{heapRoom}
-use Rattle.pushes.proofs.Sequencing.{goes-on, ends-here, four-in-room}
-use Rattle.first_faces.proofs.Starting.{four-begun}
+use Rattle.first_faces.proofs.Starting.{four-not-made, four-started}
 use Rattle.first_faces.proofs.four.start_four.Statement.{statement}
 use Rattle.first_faces.proofs.four.start_four.Tie as tie
 
--- 1 and 2 are exchanged where they wind out
-sorted : (c : tie.Joined1) → c .if1 .vertices ≡ cond (windsOut binary32 (c .before .before .before .before .before .before .before .before .before .before .args .vertices .now)) (exchanged (c .before .before .before .before .before .before .before .before .before .before .args .vertices .now)) (c .before .before .before .before .before .before .before .before .before .before .args .vertices .now)
-sorted c = ⊎-elim (λ w. w .5 ∙ w .2 .ensures ∙ rw (sym (c .before .winds-out .ensures) ∙ w .0 .taken)) (λ w. w .1 ∙ rw (sym (c .before .winds-out .ensures) ∙ w .0 .left)) (c .if1 .came)
+-- where the calls have returned, from where the function does
+abbrev ended : tie.After-enum-told → tie.After-four-faces
+ended c = c .before .before .before .before .before .before .before .before .before .before
 
-as-long : (c : tie.Joined1) → length (c .if1 .vertices) ≡ length (c .before .before .before .before .before .before .before .before .before .before .args .vertices .now)
-as-long c = ⊎-elim (λ w. ap length (w .5) ∙ w .2 .kept .0) (λ w. ap length (w .1)) (c .if1 .came)
+abbrev queued : tie.After-slice-known14 → tie.After-queue-four
+queued c = c .before .before .before .before
 
-same-length : tie.Need-same-length
-same-length c = as-long (c .before .before .before .before .before .before .before .before .before .before .before .before .before .before .before .before .before .before .before .before .before .before .before)
+abbrev made : tie.After-slice-known14 → tie.After-four-faces
+made c = c .before .before .before .before .before .before .before .before .before .before .before .before .before .before .before .before .before .before .before .before
+
+abbrev wound : tie.After-four-faces → tie.After-wind-in
+wound c = c .before .before .before .before .before .before .before .before .before .before .before .before .before .before .before
 
 returns : tie.Need-returns
-returns c supp ef ec =
-    let at-four-faces = c .before .before .before .before .before .before .before .before .before .before in
+returns c =
+    let at-four-faces = ended c in
     let at-made-of4 = at-four-faces .before .before .before .before .before in
     let at-made-of3 = at-made-of4 .before .before in
     let at-made-of2 = at-made-of3 .before .before in
     let at-made-of = at-made-of2 .before .before in
-    let at-if1 = at-made-of .before .before in
-    let at-start = at-if1 .before .before .before .before .before .before .before .before .before .before in
-    let a = at-start .args in
-    four-begun supp (heapRoom (a .rooms) (a .heap-face .now) (a .heap-key .now)) (a .tol) (a .vertices .now) (at-if1 .if1 .vertices) (a .pts .now) (a .adj .now) (a .nums .now) (a .dead .now) ef ec (a .heap-face .now) (a .heap-key .now) (a .run) (at-made-of .made-of .result) (at-made-of2 .made-of2 .result) (at-made-of3 .made-of3 .result) (at-made-of4 .made-of4 .result) (at-made-of .made-of .ensures) (at-made-of2 .made-of2 .ensures) (at-made-of3 .made-of3 .ensures) (at-made-of4 .made-of4 .ensures) (ends-here _ _ _ _ (at-four-faces .four-faces .ensures (at-if1 .if1 .vertices) ef ec (a .heap-face .now) (a .heap-key .now) ∙ four-in-room (a .rooms) (a .heap-face .now) (a .heap-key .now) _ _ _ _ _) (c .enum-told .given .1)) (sorted (at-if1))
-
-same-length-6 : tie.Need-same-length-6
-same-length-6 c = as-long (c .before .before .before .before .before .before .before .before .before .before .before .before .before .before .before .before .before .before .before .before .before .before .before .before .before .before .before .before .before .before .before .before .before)
+    let at-wind-in = wound at-four-faces in
+    let x = at-wind-in .before .before .before .before .before .before .before .before .before .args in
+    let l = at-four-faces .four-faces .last in
+    four-not-made (x .rooms) (x .run) (x .tol) (x .vertices .now) (at-wind-in .wind-in .last .0) (x .pts .now) (x .adj .now) (x .nums .now) (x .dead .now) (x .heap-face .now) (x .heap-key .now) (at-made-of .made-of .result) (at-made-of2 .made-of2 .result) (at-made-of3 .made-of3 .result) (at-made-of4 .made-of4 .result) (at-wind-in .wind-in .ensures) (at-made-of .made-of .ensures) (at-made-of2 .made-of2 .ensures) (at-made-of3 .made-of3 .ensures) (at-made-of4 .made-of4 .ensures) (l .0) (l .1 .0) (l .1 .1 .0) (l .1 .1 .1 .0) (at-four-faces .four-faces .result) (at-four-faces .four-faces .ensures) (c .enum-told .given .1)
 
 returns-2 : tie.Need-returns-2
-returns-2 c supp ef ec =
-    let at-queue-four = c .before .before .before .before in
+returns-2 c =
+    let at-queue-four = queued c in
     let at-made = at-queue-four .before .before .before .before .before .before in
-    let at-four-faces = at-made .before .before .before .before .before .before .before .before .before .before in
+    let at-four-faces = made c in
     let at-made-of4 = at-four-faces .before .before .before .before .before in
     let at-made-of3 = at-made-of4 .before .before in
     let at-made-of2 = at-made-of3 .before .before in
     let at-made-of = at-made-of2 .before .before in
-    let at-if1 = at-made-of .before .before in
-    let at-start = at-if1 .before .before .before .before .before .before .before .before .before .before in
-    let a = at-start .args in
-    four-begun supp (heapRoom (a .rooms) (a .heap-face .now) (a .heap-key .now)) (a .tol) (a .vertices .now) (at-if1 .if1 .vertices) (a .pts .now) (a .adj .now) (a .nums .now) (a .dead .now) ef ec (a .heap-face .now) (a .heap-key .now) (a .run) (at-made-of .made-of .result) (at-made-of2 .made-of2 .result) (at-made-of3 .made-of3 .result) (at-made-of4 .made-of4 .result) (at-made-of .made-of .ensures) (at-made-of2 .made-of2 .ensures) (at-made-of3 .made-of3 .ensures) (at-made-of4 .made-of4 .ensures) (goes-on _ _ _ _ (at-four-faces .four-faces .ensures (at-if1 .if1 .vertices) ef ec (a .heap-face .now) (a .heap-key .now) ∙ four-in-room (a .rooms) (a .heap-face .now) (a .heap-key .now) _ _ _ _ _) (at-made .made .given .1) (at-queue-four .queue-four .ensures supp _ _ _ ef ec)) (sorted (at-if1))
+    let at-wind-in = wound at-four-faces in
+    let x = at-wind-in .before .before .before .before .before .before .before .before .before .args in
+    let l = at-four-faces .four-faces .last in
+    let l2 = at-queue-four .queue-four .last .1 .1 in
+    four-started (x .rooms) (x .run) (x .tol) (x .vertices .now) (at-wind-in .wind-in .last .0) (x .pts .now) (x .adj .now) (x .nums .now) (x .dead .now) (x .heap-face .now) (x .heap-key .now) (at-made-of .made-of .result) (at-made-of2 .made-of2 .result) (at-made-of3 .made-of3 .result) (at-made-of4 .made-of4 .result) (at-wind-in .wind-in .ensures) (at-made-of .made-of .ensures) (at-made-of2 .made-of2 .ensures) (at-made-of3 .made-of3 .ensures) (at-made-of4 .made-of4 .ensures) (l .0) (l .1 .0) (l .1 .1 .0) (l .1 .1 .1 .0) (at-four-faces .four-faces .result) (at-four-faces .four-faces .ensures) (l2 .0) (l2 .1 .0) (at-queue-four .queue-four .result) (at-made .made .given .1) (at-queue-four .queue-four .ensures)
 
 pub start-four-spec : {M : Type 1} → statement M
-start-four-spec = tie.close (tie.spec (λ c κs. tt) (λ c κs. tt) (λ c κs. tt) (λ c κs. tt) (λ c κs. tt) (λ c κs. tt) (λ c κs. tt) (λ c. search needs) (λ c. search needs) same-length (λ c. search needs) (λ c. search needs) (λ c. search needs) (λ c. search needs) returns (λ c κs. tt) same-length-6 (λ c. search needs) (λ c. search needs) (λ c. search needs) (λ c. search needs) (λ c. search needs) (λ c. search needs) returns-2)
+start-four-spec = tie.close (tie.spec (λ c κs. tt) (λ c κs. tt) (λ c κs. tt) (λ c κs. tt) (λ c κs. tt) (λ c κs. tt) (λ c. search needs) (λ c. search needs) (λ c. wound (ended c) .wind-in .kept .0) (λ c. ended c .four-faces .kept .0) (λ c. ended c .four-faces .kept .1 .0) (λ c. ended c .four-faces .kept .1 .1 .0) (λ c. ended c .four-faces .kept .1 .1 .1 .0) returns (λ c κs. tt) (λ c. wound (made c) .wind-in .kept .0) (λ c. made c .four-faces .kept .0) (λ c. made c .four-faces .kept .1 .0) (λ c. made c .four-faces .kept .1 .1 .0) (λ c. made c .four-faces .kept .1 .1 .1 .0) (λ c. queued c .queue-four .kept .1 .1 .0) (λ c. queued c .queue-four .kept .1 .1 .1 .0) returns-2)

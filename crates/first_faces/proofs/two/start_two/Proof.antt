@@ -1,42 +1,33 @@
 -- `start_two` does what `startTwo` does. Assumes nothing.
 use borrow.Author.Needs.{needs}
-use borrow.Author.Tests.{eq-eqb, ne-eqb}
-use mathlib.Core.Path.{_∙_}
-use lib.Ieee.{binary32}
-use Rattle.shape.specs.Support.{fromShapes}
-use Rattle.polytope.specs.Polytope.{startTwo, look, _>>=_}
-use Rattle.pushes.proofs.Sequencing.{goes-on, ends-here, done-if, passed-over, third-in-room}
+use Rattle.first_faces.proofs.Starting.{no-third, two-started}
 use Rattle.first_faces.proofs.two.start_two.Statement.{statement}
 use Rattle.first_faces.proofs.two.start_two.Tie as tie
 
+-- where the calls have returned, from where the function does
+abbrev ended : tie.After-enum-told → tie.After-with-third
+ended c = c .before .before .before .before
+
+abbrev faced : tie.After-slice-known14 → tie.After-two-faces
+faced c = c .before .before .before .before .before .before .before .before .before .before .before .before
+
+abbrev grown : tie.After-slice-known14 → tie.After-with-third
+grown c = c .before .before .before .before .before .before .before .before .before .before .before .before .before .before .before .before .before .before .before .before .before .before .before .before .before
+
 returns : tie.Need-returns
-unfolding startTwo look _>>=_
-returns c ef ec =
-    let at-third = c .before .before .before .before in
-    let at-if1 = at-third .before .before in
-    let at-start = at-if1 .before .before .before .before .before .before .before .before .before in
-    let a = at-start .args in
-    ends-here _ _ _ _ (done-if _ _ (eq-eqb _ _ (at-if1 .if1 .taken)) (at-third .third .ensures (a .pts .now) (a .adj .now) (a .nums .now) (a .dead .now) ef ec (a .heap-face .now) (a .heap-key .now) ∙ third-in-room _ (a .rooms) (a .heap-face .now) (a .heap-key .now) _)) (c .enum-told .given .1)
+returns c =
+    let at-with-third = ended c in
+    let x = at-with-third .before .before .before .before .before .before .before .before .before .args in
+    no-third (x .pos12) (x .g1) (x .g2) (x .rooms) (x .run) (x .tol) (x .vertices .now) (x .pts .now) (x .adj .now) (x .nums .now) (x .dead .now) (x .heap-face .now) (x .heap-key .now) (at-with-third .with-third .last .0) (at-with-third .with-third .result) (at-with-third .with-third .ensures) (c .enum-told .given .1)
 
 returns-2 : tie.Need-returns-2
-unfolding startTwo look _>>=_
-returns-2 c ef ec =
-    let at-two-faces = c .before .before .before .before .before .before .before .before .before .before .before .before in
+returns-2 c =
+    let at-two-faces = faced c in
     let at-grown = at-two-faces .before .before .before .before .before .before .before .before .before in
-    let at-third = at-grown .before .before .before .before in
-    let at-if1 = at-third .before .before in
-    let at-start = at-if1 .before .before .before .before .before .before .before .before .before in
-    let a = at-start .args in
-    goes-on _ _ _ _ (done-if _ _ (eq-eqb _ _ (at-if1 .if1 .taken)) (at-third .third .ensures (a .pts .now) (a .adj .now) (a .nums .now) (a .dead .now) ef ec (a .heap-face .now) (a .heap-key .now) ∙ third-in-room _ (a .rooms) (a .heap-face .now) (a .heap-key .now) _)) (at-grown .grown .given .1) (at-two-faces .two-faces .ensures (fromShapes binary32 (a .pos12) (a .g1) (a .g2)) ef ec)
-
-returns-3 : tie.Need-returns-3
-unfolding startTwo look _>>=_
-returns-3 c ef ec =
-    let at-two-faces2 = c .before .before .before .before .before .before .before .before .before .before .before .before in
-    let at-if1 = at-two-faces2 .before .before .before .before .before .before .before .before in
-    let at-start = at-if1 .before .before .before .before .before .before .before .before .before in
-    let a = at-start .args in
-    passed-over _ _ _ (ne-eqb _ _ (at-if1 .if1 .left)) (at-two-faces2 .two-faces2 .ensures (fromShapes binary32 (a .pos12) (a .g1) (a .g2)) ef ec)
+    let at-with-third = grown c in
+    let x = at-with-third .before .before .before .before .before .before .before .before .before .args in
+    let l = at-two-faces .two-faces .last .1 in
+    two-started (x .pos12) (x .g1) (x .g2) (x .rooms) (x .run) (x .tol) (x .vertices .now) (x .pts .now) (x .adj .now) (x .nums .now) (x .dead .now) (x .heap-face .now) (x .heap-key .now) (at-with-third .with-third .last .0) (at-with-third .with-third .result) (at-with-third .with-third .ensures) (l .0) (l .1 .0) (l .1 .1 .0) (l .1 .1 .1 .0) (l .1 .1 .1 .1 .0) (l .1 .1 .1 .1 .1 .0) (at-two-faces .two-faces .result) (at-grown .grown .given .1) (at-two-faces .two-faces .ensures)
 
 pub start-two-spec : {M : Type 1} → statement M
-start-two-spec = tie.close (tie.spec (λ c κs. tt) (λ c. search needs) (λ c. search needs) (λ c. search needs) returns (λ c κs. tt) (λ c. search needs) (λ c. search needs) (λ c. search needs) (λ c. search needs) (λ c. search needs) (λ c. search needs) (λ c. search needs) returns-2 (λ c κs. tt) (λ c. search needs) (λ c. search needs) (λ c. search needs) (λ c. search needs) (λ c. search needs) (λ c. search needs) (λ c. search needs) returns-3)
+start-two-spec = tie.close (tie.spec (λ c κs. tt) (λ c. search needs) (λ c. search needs) (λ c. ended c .with-third .kept .0) returns (λ c κs. tt) (λ c. grown c .with-third .kept .0) (λ c. faced c .two-faces .kept .1 .0) (λ c. faced c .two-faces .kept .1 .1 .0) (λ c. faced c .two-faces .kept .1 .1 .1 .0) (λ c. faced c .two-faces .kept .1 .1 .1 .1 .0) (λ c. faced c .two-faces .kept .1 .1 .1 .1 .1 .0) (λ c. faced c .two-faces .kept .1 .1 .1 .1 .1 .1 .0) returns-2)
