@@ -1,7 +1,8 @@
 -- `over`, one list written over another, and `records`, the records of two columns: what a loop that writes one element in each turn needs, and what the crate's laws are made of.
 --     over-next        writing element i goes from i elements to i + 1
 --     over-enough      elements beyond the store's end make no difference.        take-enough      neither does `take` beyond the list's own
---     over-all, over-some      so a loop that stops where either ends has written all.
+--     over-all, over-some      so a loop that stops where either ends has written all
+--     column-next, column-all      the same of one column of a store's records
 --     record-at        record i has the columns' numbers at i
 use mathlib.Core.Path.{_≡_, refl, sym, ap, _∙_, subst}
 use Prim.Native.Nat.{ℕ, zero, suc, _+_, _<_, _≤_, zero-le, min}
@@ -37,7 +38,7 @@ module _ {A : Type 0} where
   pub over-next : (i : ℕ) (xs ys : List A) (d : A) → i < length xs → set (over (take i xs) ys) i (getD xs i d) ≡ over (take (i + 1) xs) ys
   over-next i xs ys d within = next i xs ys d within ∙ ap (λ (k : ℕ). over (take k xs) ys) (sym (add-one i))
 
-  pub over-enough : (k : ℕ) (xs ys : List A) → length ys ≤ k → over (take k xs) ys ≡ over xs ys
+  over-enough : (k : ℕ) (xs ys : List A) → length ys ≤ k → over (take k xs) ys ≡ over xs ys
   unfolding over
   over-enough zero [] ys few = refl
   over-enough zero (x ∷ xs) [] few = refl
@@ -53,7 +54,7 @@ module _ {A : Type 0} where
   take-min (suc a) (suc b) (x ∷ xs) = ap (λ (k : ℕ). take k (x ∷ xs)) (suc-min-suc a b) ∙ ap {B = List A} (λ r. x ∷ r) (take-min a b xs)
 
   -- a list of at most m elements, and a store: as many as both have room for are enough
-  pub over-all : (m : ℕ) (xs ys : List A) → length ys ≡ m → over (take (min (length xs) m) xs) ys ≡ over xs ys
+  over-all : (m : ℕ) (xs ys : List A) → length ys ≡ m → over (take (min (length xs) m) xs) ys ≡ over xs ys
   over-all m xs ys is = ap (λ (zs : List A). over zs ys) (take-min (length xs) m xs) ∙ over-enough m (take (length xs) xs) ys (le-of-eq is) ∙ ap (λ (zs : List A). over zs ys) (take-enough (length xs) xs (le-of-eq refl))
 
   pub over-some : (k m : ℕ) (xs ys : List A) → length xs ≡ m → over (take (min (min k m) (length ys)) xs) ys ≡ over (take k xs) ys
@@ -118,11 +119,6 @@ pub records-of : (es : List Edge) → records (facesOf es) (cornersOf es) ≡ es
 unfolding records
 records-of [] = refl
 records-of (e ∷ es) = ap {B = List Edge} (λ r. e ∷ r) (records-of es)
-
-pub take-map : {A B : Type 0} (f : A → B) (k : ℕ) (xs : List A) → take k (map f xs) ≡ map f (take k xs)
-take-map f zero xs = refl
-take-map f (suc k) [] = refl
-take-map {B = B} f (suc k) (x ∷ xs) = ap {B = List B} (λ r. f x ∷ r) (take-map f k xs)
 
 -- one number of a column
 pub column-next : (f : Edge → ℕ) (i : ℕ) (es : List Edge) (ys : List ℕ) → i < length es → set (over (take i (map f es)) ys) i (f (getD es i (edge 0 0))) ≡ over (take (i + 1) (map f es)) ys

@@ -2,7 +2,7 @@
 -- The rows have 206 places, for a pass records at most 206 edges (document 01's demand 3). A store may be longer or shorter.
 use Prim.Native.Nat.{ℕ, min}
 use mathlib.Core.List.{List, [], _∷_, map}
-use lib.ListN.{length, getD, set, take, replicate}
+use lib.ListN.{length, take, replicate}
 use Rattle.edges.specs.declared.Edge.{Edge}
 use Rattle.edges.specs.declared.Rows.{Rows}
 
@@ -29,16 +29,6 @@ abbrev pub cornersOf : List Edge → List ℕ
 cornersOf es = map (λ (e : Edge). e .corner) es
 
 -- ---- rows
-
--- room for the records of a store of m
-abbrev pub noRows : ℕ → Rows
-noRows m = record { faces = replicate 206 0; corners = replicate 206 0; n = min m 206 }
-
-abbrev pub recordAt : Rows → ℕ → Edge
-recordAt r i = edge (getD (r .faces) i 0) (getD (r .corners) i 0)
-
-abbrev pub withRecord : Rows → ℕ → Edge → Rows
-withRecord r i e = record { faces = set (r .faces) i (e .face); corners = set (r .corners) i (e .corner); n = r .n }
 
 -- a store's first records, at most 206, and zeros after them
 abbrev pub rowsOf : List Edge → Rows

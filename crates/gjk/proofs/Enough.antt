@@ -1,4 +1,4 @@
--- The turns of a run are never spent: 107 give what any larger number gives (`enough`), for any format, support function and simplex.
+-- The turns of a run are never spent: within 107 one ends it (`always-ends`), so that 107 give what any larger number gives (`enough`), for any format, support function and simplex.
 -- A turn that goes on is a round, of which the hundredth ends the run, or it leaves the projection and the bound alone (`Step`). Then the bound doesn't fall in the next
 -- turn, which takes one of six perturbations or ends. So `left`, the rounds, the perturbations and one turn before a perturbation that are left, falls at each turn.
 use Prim.Native.Nat.{ℕ, zero, suc, _+_, _-_, _*_, _≤_, _<_}
@@ -209,6 +209,23 @@ module _ (f : Format) (k : Search) where
       go : (s : VoronoiSimplex) (p : Projected) → startAt f s p .next ≡ Onward r → left r < 107
       go s (Projection.At proj) h = within s proj (tryNormalizeV f proj) h
       go s Projection.Refused h = no-end Refused r h
+
+  -- a run of at most n turns comes to one that ends it
+  pub data Ends : ℕ → VoronoiSimplex → Round → Type 0 where
+    last : {n : ℕ} {s : VoronoiSimplex} {r : Round} (x : GJKResult) → turnOf f k s r .next ≡ Ended x → Ends (suc n) s r
+    further : {n : ℕ} {s : VoronoiSimplex} {r : Round} (q : Round) → turnOf f k s r .next ≡ Onward q → Ends n (turnOf f k s r .simplex) q → Ends (suc n) s r
+
+  ended-by : (n : ℕ) (s : VoronoiSimplex) (r : Round) (x : Next) → turnOf f k s r .next ≡ x → ((q : Round) → turnOf f k s r .next ≡ Onward q → Ends n (turnOf f k s r .simplex) q) → Ends (suc n) s r
+  ended-by n s r (Ended x) e more = last x e
+  ended-by n s r (Onward q) e more = further q e (more q e)
+
+  ends-within : (n : ℕ) (s : VoronoiSimplex) (r : Round) → left r < n → Ends n s r
+  ends-within zero s r h = absurd (omega arith)
+  ends-within (suc n) s r h = ended-by n s r (turnOf f k s r .next) refl (λ q e. ends-within n (turnOf f k s r .simplex) q (omega (arith, falls s r q e)))
+
+  -- the loop ends within 107 turns, by a turn of its own
+  pub always-ends : (s : VoronoiSimplex) (r : Round) → startOf f s .next ≡ Onward r → Ends 107 (startOf f s .simplex) r
+  always-ends s r h = ends-within 107 (startOf f s .simplex) r (starts s r h)
 
 -- 107 turns are enough: any more give the same
 pub enough : (turns : ℕ) → 107 ≤ turns → (f : Format) (supp : Vec3 → Vertex) (maxDist : Float) (exact : Bool) (s : VoronoiSimplex) → closestWithin turns f supp maxDist exact s ≡ closestPoints f supp maxDist exact s

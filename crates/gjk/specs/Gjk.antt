@@ -1,5 +1,8 @@
 -- `closest_points` of src/query/gjk/gjk.rs, for any support function, with the turns of its loop for fuel. Definitions only.
 -- A turn ends the run with a result, or goes on with what the loop carries. Fuel for 107 turns is never spent: proofs/Enough.antt.
+-- The loop's body from its top: `turnOf`, `stagnated` (`if max_bound >= old_max_bound`), `probed` (support point and assertion), `bounded` (the tests of both bounds),
+-- `extended` and `stalled` (`add_point`), `advanced` and `reducedTo` (the reduction, dimension 3, `niter`). They stand in the opposite order, since each uses the next.
+-- `Round` is what the loop carries; a turn is one pass through its body.
 use Prim.Native.Nat.{ℕ, zero, suc, _+_}
 use mathlib.Core.Bool.{Bool, true, false, not, _&&_, cond}
 use mathlib.Core.List.{List, [], _∷_}
@@ -108,7 +111,8 @@ module _ (f : Format) where
         niter = r .niter + 1;
       }
 
-  -- in dimension 3 the origin is inside, or the bound says that it is not; the hundredth round ends the run
+  -- in dimension 3 the origin is inside, or the bound says that it is not. `niter += 1; if niter == 100`: `niter` goes up from 0 by one, so this is the test for 99
+  -- or more before the sum
   abbrev pub reducedTo : Search → VoronoiSimplex → Projected → Round → Vec3 → Float → Turn
   reducedTo k s (Projection.At proj) r dir minBound =
       cond (eqb (s .dim) 3)
@@ -209,7 +213,7 @@ module _ (f : Format) where
   runOf k zero s r = record { simplex = s; result = NoIntersection xV }
   runOf k (suc n) s r = let t = turnOf k s r in after (runOf k n) (t .simplex) (t .next)
 
-  -- what stands before the loop
+  -- what stands before the loop: the first projection, `old_dir`, and the starting bounds
   unfoldable pub firstRound : Vec3 → Vec3 → Round
   firstRound proj projDir =
       record {
@@ -251,5 +255,6 @@ closestWithin turns f supp maxDist exact s =
     let t = startOf f s in
     finishedBy s (after f (runOf f k turns) (t .simplex) (t .next))
 
+-- `closest_points`
 unfoldable pub closestPoints : Format → (Vec3 → Vertex) → Float → Bool → VoronoiSimplex → Gjk
 closestPoints f supp maxDist exact s = closestWithin 107 f supp maxDist exact s

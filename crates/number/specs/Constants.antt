@@ -1,4 +1,4 @@
--- The constants of the Rust, as functions of the number format. Definitions only.
+-- The constants of src/math/mod.rs, src/query/gjk/gjk.rs and src/query/epa/epa3.rs, as functions of the number format. Definitions only.
 use Prim.Native.Nat.{_+_, _-_, _^_}
 use mathlib.Core.Bool.{false}
 use lib.IntN.{pos}

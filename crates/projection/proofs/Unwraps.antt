@@ -76,7 +76,7 @@ on-side f t pt v k Info.OnAC = tt
 on-side f t pt v k Info.OnBC = tt
 on-side f t pt v k (Info.OnFace side va vb vc) = on-face f pt (t .a) (v .ab) (v .ac) side va vb vc
 
--- UNWRAP NEVER FINDS NONE
+-- `unwrap` never finds a none
 pub never-unwraps-none : (f : Format) (t : Triangle) (pt : Vec3) → Unwraps (projectTriangle f t pt .location)
 unfolding projectTriangle
 never-unwraps-none f t pt =

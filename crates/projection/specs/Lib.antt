@@ -1,3 +1,4 @@
+-- What the contracts of this crate cite: projections on a segment, a triangle and a tetrahedron.
 pub mod Relative
 pub mod Inside
 pub mod Segment

@@ -1,4 +1,4 @@
--- The projection of a point on a tetrahedron, taken as solid, of any format f: `point_tetrahedron.rs`, with the tests in its order, the first that holds answers,
+-- The projection of a point on a tetrahedron, taken as solid, of any format f: src/query/point/point_tetrahedron.rs, with the tests in its order, the first that holds answers,
 -- one rounding each. Definitions only.
 use Prim.Native.Nat.{ℕ}
 use mathlib.Core.Bool.{Bool, cond, _&&_}

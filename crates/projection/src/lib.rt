@@ -1,7 +1,7 @@
 // The projection of a point on a segment, a triangle and a tetrahedron, each taken as solid, and
 // where on the shape the projection lies (parry3d's `PointQueryWithLocation`).
-// The tests stand in the Rust's order, and the first that holds answers. What each function returns
-// is the definition of like name in `specs/`, at binary32.
+// The tests stand in the Rust's order, and the first that holds answers. The `ensures` of each function
+// names its definition in `specs/`, at binary32.
 mod point_query;
 mod relative;
 mod segment;

@@ -1,5 +1,5 @@
 -- Support points: the point of a shape farthest along a direction, with ties and NaN as the Rust has them. Definitions only.
--- Carries `SupportMap` of src/shape/ball.rs, cuboid.rs and capsule.rs, and `CsoPoint::from_shapes` of src/query/gjk/cso_point.rs.
+-- Carries `SupportMap` of src/shape/ball.rs, cuboid.rs and capsule.rs, and `CsoPoint::from_shapes` and `from_shapes_toward` of src/query/gjk/cso_point.rs.
 -- The trait's defaults and the triangle's rule are not published with the crate's text: docs/DECISIONS.md says what stands in for them.
 use mathlib.Core.Bool.{cond}
 use lib.Ieee.{Float, Format, lt}
@@ -48,7 +48,7 @@ module _ (f : Format) where
   localSupportPointToward (Capsule ax ay az bx by bz r) d = capsuleToward (vec3 ax ay az) (vec3 bx by bz) r d
   localSupportPointToward (Triangle ax ay az bx by bz cx cy cz) d = triangleLocal (vec3 ax ay az) (vec3 bx by bz) (vec3 cx cy cz) d
 
-  -- what the shape makes of a direction before it asks: a ball normalizes it with no test, a capsule with Y to fall back on
+  -- what the shape makes of a direction before it looks for the point: a ball normalizes it with no test, a capsule with Y to fall back on
   unfoldable pub unitFor : Shape → Vec3 → Vec3
   unitFor (Ball r) d = normalizeV f d
   unitFor (Cuboid x y z) d = d

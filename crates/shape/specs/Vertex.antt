@@ -1,5 +1,5 @@
 -- Vertices: points of the difference of two shapes, each with the two points it came from. Definitions only.
--- Carries `CsoPoint` of src/query/gjk/cso_point.rs, but for `from_shapes`, which is in Support.antt.
+-- Carries `CsoPoint` of src/query/gjk/cso_point.rs, but for `from_shapes` and `from_shapes_toward`, which are in Support.antt; `translate_mut` is `translate`, by value.
 use lib.Ieee.{Format}
 use Rattle.vector.specs.declared.vec3.Vec3.{Vec3}
 use Rattle.vector.specs.Vector.{zeroV, addV, subV}

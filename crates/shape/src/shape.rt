@@ -27,8 +27,8 @@ impl Shape {
         self.local_support_point_toward(self.unit_for(dir))
     }
 
-    // What the shape makes of `dir` before it asks: a ball normalizes it with no test, a capsule with Y
-    // to fall back on, and the others take it as it is.
+    // What the shape makes of `dir` before it looks for the point: a ball normalizes it with no test, a
+    // capsule with Y to fall back on, and the others take it as it is.
     fn unit_for(self, dir: Vec3) -> Vec3
         ensures { λ r. ⌜ r ≡ unitFor binary32 self dir ⌝ }
     {

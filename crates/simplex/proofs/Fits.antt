@@ -71,7 +71,7 @@ by-dimension (suc (suc zero)) a b c e l ha hb hc he = hc
 by-dimension (suc (suc (suc zero))) a b c e l ha hb hc he = he
 by-dimension (suc (suc (suc (suc d)))) a b c e l ha hb hc he = absurd (omega arith)
 
--- THE LOCATION THAT IS FOUND IS ONE THAT THE SIMPLEX HAS
+-- the location that is found is one that the simplex has
 pub location-fits : (f : Format) (s : VoronoiSimplex) → s .dim ≤ 3 → LocatedFits (s .dim) (findLocation f s)
 unfolding findLocation
 location-fits f s h = by-dimension (s .dim) _ _ _ _ h (LocatedFits.at _ _ SimplexHas.point) (on-segment f s) (on-triangle f s) (on-tetrahedron f s)
@@ -115,7 +115,7 @@ tetrahedron-applies s _ (TetrahedronHas.edge i u v h) = tetrahedron-edge s i u v
 tetrahedron-applies s _ (TetrahedronHas.face i u v w h) = tetrahedron-face s i u v w h
 tetrahedron-applies s _ TetrahedronHas.solid = refl
 
--- A LOCATION THAT A SIMPLEX HAS IS NOT REFUSED
+-- a location that a simplex has is not refused
 pub location-applies : (s : VoronoiSimplex) (d : ℕ) (l : Location) → SimplexHas d l → applyLocation s l .outcome ≡ Done
 unfolding applyLocation
 location-applies s _ _ SimplexHas.point = refl
@@ -129,7 +129,7 @@ reduced-at : (s : VoronoiSimplex) (d : ℕ) (x : Located) → LocatedFits d x �
 reduced-at s d _ (LocatedFits.at p l h) = rw (location-applies s d l h)
 reduced-at s d _ LocatedFits.refused = refl
 
--- THE REDUCTION GIVES THE PROJECTION, and is refused only where the projection is
+-- the reduction gives the projection, and is refused only where the projection is
 pub reduced-projection : (f : Format) (s : VoronoiSimplex) → projectOriginAndReduce f s .projection ≡ projectOrigin f s
 unfolding projectOriginAndReduce projectOrigin reduceIn
 reduced-projection f s = by (isSimplex s) (λ e. reduced-at s (s .dim) (findLocation f s) (location-fits f s (small s e .dimension)))

@@ -14,6 +14,7 @@ use crate::steps;
 use shape::Vertex;
 use vector::Vec3;
 
+// Of `swap`, `reset` and `modify_pnts`.
 pub enum Outcome {
     Done,
     Refused,
@@ -24,6 +25,7 @@ pub struct Altered {
     pub outcome: Outcome,
 }
 
+// Of `add_point` and `contains_point`.
 pub enum Answer {
     Yes,
     No,
@@ -35,21 +37,25 @@ pub struct Added {
     pub answer: Answer,
 }
 
+// A weight, or the greatest squared length.
 pub enum Number {
     Is(f32),
     Refused,
 }
 
+// A dimension.
 pub enum Size {
     Is(usize),
     Refused,
 }
 
+// A vertex.
 pub enum Corner {
     At(Vertex),
     Refused,
 }
 
+// Where the origin projects.
 pub enum Projected {
     At(Vec3),
     Refused,
@@ -151,7 +157,8 @@ impl VoronoiSimplex {
         Number::Refused
     }
 
-    // Vertex i before the last `add_point`, wherever a reduction has swapped it since.
+    // Vertex i before the last `add_point`, wherever a reduction has swapped it since. Where a face reduction has
+    // written the last vertex over its place, the new vertex shows.
     pub fn prev_point(self, i: usize) -> Corner
         ensures { λ r. ⌜ r ≡ prevPoint self i ⌝ }
     {

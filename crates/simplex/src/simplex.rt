@@ -1,4 +1,4 @@
-// What a simplex is.
+// `VoronoiSimplex` of voronoi_simplex3.rs, `new`, and what a simplex is.
 ghost use mathlib.Core.Path.{_≡_};
 ghost use Rattle.simplex.specs.Simplex.{newSimplex, isSimplex};
 use shape::Vertex;

@@ -65,7 +65,7 @@ withComponentV a Z n = vec3 (a .x) (a .y) n
 unfoldable pub usable : Float → Bool
 usable r = finite r && lt zeroF r
 
--- ---- what rounds, to the format f
+-- ---- what rounds, to the format f; first + - * / of numbers
 module _ (f : Format) where
   infixl 60 _⊕_ _⊖_
   infixl 70 _⊗_ _⊘_
