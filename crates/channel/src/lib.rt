@@ -73,7 +73,7 @@ fn met(
     outcome_of(answer)
 }
 
-// A new simplex is one, so that its reset is not refused.
+// A new simplex, reset to the support point of `dir`. It is a simplex, so that the reset is not refused.
 fn start_of(pos12: Pose, g1: Shape, g2: Shape, dir: Vec3) -> VoronoiSimplex
     ensures { λ r. ⌜ r ≡ startOf pos12 g1 g2 dir ⌝ }
 {

@@ -118,7 +118,7 @@ fn malformed_answer() -> Answer
     answer_with(7, Vec3::ZERO, Vec3::ZERO, Vec3::ZERO, no_counts())
 }
 
-// On two rows of numbers.
+// The channel over two number slices, once both kinds are known.
 fn run_columns(
     pos12: Pose,
     g1: ShapeRecord,
@@ -215,7 +215,7 @@ fn run_rows(
     }
 }
 
-// The rows are the first records of the lent store, and go back over them.
+// The channel's answer for C. The records of edges go in as two rows of numbers and are written back.
 #[no_mangle]
 pub extern "C" fn separation_run(
     pos12: Pose,
@@ -256,6 +256,7 @@ pub extern "C" fn separation_run(
     ran.answer
 }
 
+// Two out of three.
 #[no_mangle]
 pub extern "C" fn separation_vote(a: Answer, b: Answer, c: Answer) -> Voted
     ensures { λ r. ⌜ r ≡ votedOf (voteOf a b c) ⌝ }

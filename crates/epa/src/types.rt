@@ -25,6 +25,7 @@ pub struct Counts {
     pub most_edges: usize,
 }
 
+// How a run ended, and its counts.
 pub struct Answer {
     pub end: End,
     pub counts: Counts,

@@ -23,7 +23,7 @@ use Rattle.polytope.specs.declared.types.End.the-variants.{Nothing, Panics}
 use Rattle.polytope.specs.declared.types.Step.{Step}
 use Rattle.polytope.specs.declared.types.Step.the-variants.{Onward, Ended}
 use Rattle.polytope.specs.Face.{faceNew}
-use Rattle.polytope.specs.Polytope.{Out, Nil, worldOf, stateOf, stepOut, vertexAt, normalOf, windsOut, exchanged, queueStart, fourFaces, queueFour, startFour, startTwo, across, third, threeN, pushVertex, pushFace, twoFaces, stopIf, doIf, put, look, _>>=_, _>>_}
+use Rattle.polytope.specs.Polytope.{Out, Nil, worldOf, stateOf, stepOut, vertexAt, normalOf, windsInward, exchanged, queueStart, fourFaces, queueFour, startFour, startTwo, across, third, threeN, pushVertex, pushFace, twoFaces, stopIf, doIf, put, look, _>>=_, _>>_}
 use Rattle.pushes.specs.Contracts.{worldBy, heapRoom, PushesVertex, QueuesFace}
 use Rattle.pushes.proofs.Sequencing.{goes-on, ends-here, kept-room, four-in-room, not-stopped, stopped}
 use Rattle.first_faces.specs.Contracts.{PushesTwo, FourFaces, QueuesStart, QueuesTwo, QueuesFour, StartsFour, Thirds, WithThird, QueuesBoth, TwoFaces, StartsTwo}
@@ -70,9 +70,9 @@ module _ (rooms : Rooms) (run : Run) (tol : Float) (h1 h2 h3 h4 : Bool) (v n : L
     unfolding queueFour
     none-holds t is supp p a d ef ec = pair-goes-on _ _ _ _ _ (first supp p a d ef ec) t1 (pair-goes-on _ _ _ _ _ (in-room supp p a d ef ec) t (stopped _ _ is))
 
--- the four faces are made of the vertices, 1 and 2 exchanged where they wind out
+-- the four faces are made of the vertices, 1 and 2 exchanged where they wind inward
 module _ (rooms : Rooms) (run : Run) (tol : Float) (v v1 : List Float) (p a : List ℕ) (n : List Float) (d hf : List ℕ) (hk : List Float) (m1 m2 m3 m4 : Made)
-    (wound : v1 ≡ cond (windsOut binary32 v) (exchanged v) v)
+    (wound : v1 ≡ cond (windsInward binary32 v) (exchanged v) v)
     (i1 : m1 ≡ faceNew binary32 (vertexAt v1 0 .point) (vertexAt v1 1 .point) (vertexAt v1 2 .point))
     (i2 : m2 ≡ faceNew binary32 (vertexAt v1 1 .point) (vertexAt v1 3 .point) (vertexAt v1 2 .point))
     (i3 : m3 ≡ faceNew binary32 (vertexAt v1 0 .point) (vertexAt v1 2 .point) (vertexAt v1 3 .point))
@@ -81,9 +81,9 @@ module _ (rooms : Rooms) (run : Run) (tol : Float) (v v1 : List Float) (p a : Li
       → o ≡ (fourFaces (heapRoom rooms hf hk) m1 m2 m3 m4 >> queueFour (worldOf binary32 supp) (heapRoom rooms hf hk) tol (m1 .holds) (m2 .holds) (m3 .holds) (m4 .holds)) (stateOf v1 p a n d ef ec hf hk run)
       → o ≡ startFour (worldOf binary32 supp) (heapRoom rooms hf hk) tol (stateOf v p a n d ef ec hf hk run)
   unfolding startFour doIf put look _>>=_ _>>_
-  begun supp ef ec o g = by (windsOut binary32 v) refl
+  begun supp ef ec o g = by (windsInward binary32 v) refl
     where
-      by : (b : Bool) → windsOut binary32 v ≡ b → o ≡ startFour (worldOf binary32 supp) (heapRoom rooms hf hk) tol (stateOf v p a n d ef ec hf hk run)
+      by : (b : Bool) → windsInward binary32 v ≡ b → o ≡ startFour (worldOf binary32 supp) (heapRoom rooms hf hk) tol (stateOf v p a n d ef ec hf hk run)
       by true t = let e : v1 ≡ exchanged v = wound ∙ rw t in rw (t, ← e, ← i1, ← i2, ← i3, ← i4) g
       by false t = let e : v1 ≡ v = wound ∙ rw t in rw (t, ← e, ← i1, ← i2, ← i3, ← i4) g
 

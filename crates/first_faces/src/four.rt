@@ -2,7 +2,7 @@
 ghost use mathlib.Core.Path.{_≡_};
 ghost use mathlib.Core.Bool.{cond};
 ghost use lib.Ieee.{binary32};
-ghost use Rattle.polytope.specs.Polytope.{exchanged, windsOut};
+ghost use Rattle.polytope.specs.Polytope.{exchanged, windsInward};
 ghost use Rattle.first_faces.specs.Contracts.{FourFaces, QueuesStart, QueuesTwo, QueuesFour, StartsFour};
 use crate::pairs::push_two;
 use polytope::End;
@@ -18,9 +18,9 @@ use silhouette::normal_of;
 use silhouette::put_vertex;
 use silhouette::vertex_at;
 
-// Whether four vertices wind so that 1 and 2 have to be exchanged.
-fn winds_out(vertices: &[f32]) -> bool
-    ensures { λ r. ⌜ r ≡ windsOut binary32 (now (vertices .entry)) ⌝ }
+// Whether the faces of four vertices would have their normals inward.
+fn winds_inward(vertices: &[f32]) -> bool
+    ensures { λ r. ⌜ r ≡ windsInward binary32 (now (vertices .entry)) ⌝ }
 {
     let p0 = vertex_at(vertices, 0).point;
     let dp1 = vertex_at(vertices, 1).point.sub(p0);
@@ -39,11 +39,11 @@ fn exchange(vertices: &mut [f32])
     put_vertex(vertices, 2, v1);
 }
 
-// Four vertices that wind out are made to wind in.
-fn wind_in(vertices: &mut [f32])
-    ensures { λ r. ⌜ now (vertices .exit) ≡ cond (windsOut binary32 (now (vertices .entry))) (exchanged (now (vertices .entry))) (now (vertices .entry)) ⌝ }
+// Four vertices whose faces would have their normals inward are made to wind outward.
+fn wind_outward(vertices: &mut [f32])
+    ensures { λ r. ⌜ now (vertices .exit) ≡ cond (windsInward binary32 (now (vertices .entry))) (exchanged (now (vertices .entry))) (now (vertices .entry)) ⌝ }
 {
-    if winds_out(vertices) {
+    if winds_inward(vertices) {
         exchange(vertices);
     }
 }
@@ -246,7 +246,7 @@ pub fn start_four(
 ) -> Step
     ensures { λ r. ⌜ StartsFour rooms run tol (now (vertices .entry)) (now (pts .entry)) (now (adj .entry)) (now (nums .entry)) (now (dead .entry)) (now («heap_face» .entry)) (now («heap_key» .entry)) (now (vertices .exit)) (now (pts .exit)) (now (adj .exit)) (now (nums .exit)) (now (dead .exit)) (now («heap_face» .exit)) (now («heap_key» .exit)) r ⌝ }
 {
-    wind_in(vertices);
+    wind_outward(vertices);
     let m1 = made_of(vertices, 0, 1, 2);
     let m2 = made_of(vertices, 1, 3, 2);
     let m3 = made_of(vertices, 0, 2, 3);

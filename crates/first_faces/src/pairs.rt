@@ -1,4 +1,5 @@
-// Faces pushed two at a time: either start makes an even number of them.
+// Faces pushed two at a time: either start makes an even number of them, and what is proved of a function grows with
+// the square of the calls that lend the stores.
 ghost use Rattle.first_faces.specs.Contracts.{PushesTwo};
 use polytope::Made;
 use polytope::Rooms;

@@ -76,6 +76,7 @@ fn grow_at(
     ensures { λ r. ⌜ GrowsAt rooms run turn face «opp_pt_id» (now (vertices .entry)) (now (pts .entry)) (now (adj .entry)) (now (nums .entry)) (now (dead .entry)) (now («heap_face» .entry)) (now («heap_key» .entry)) (now (pts .exit)) (now (adj .exit)) (now (nums .exit)) (now (dead .exit)) (now («heap_face» .exit)) (now («heap_key» .exit)) r ⌝ }
 {
     let new_face_id = run.faces;
+    // `% 3` first, so that no sum overflows; the value is the Rust's
     let side = (opp_pt_id % 3 + 1) % 3;
     let a = three_at(pts, face, (opp_pt_id % 3 + 2) % 3);
     let b = three_at(pts, face, side);

@@ -1,6 +1,6 @@
 -- What the calls of this crate answer and leave, and document 01's number of each answer. Definitions only.
--- A store lent as two slices is as long as the shorter one. A count above that is none that a call returned: the entries that it tells of need the
--- place whose number is the store's length, so each call answers refusal 3, and writes nothing.
+-- A store lent as two slices is as long as the shorter one. No call returns a count above that. If one is passed all the same, the call answers
+-- refusal 3 and writes nothing.
 use Prim.Native.Nat.{ℕ, zero, suc, _+_, min}
 use mathlib.Core.Bool.{cond}
 use mathlib.Core.List.{List}

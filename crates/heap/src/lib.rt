@@ -1,8 +1,8 @@
 // The queue of faces by their keys, the greatest first: Rust's `BinaryHeap<FaceId>`, with the entries in two slices that the
 // caller lends, a face and its key at the same place, and the count beside them.
 // Carries alloc's `BinaryHeap::push`, `peek` and `pop` as rustc 1.95 has them; specs/Heap.antt is what they compute.
-// The store is as long as the shorter slice. A count above that is none that a call here returned: each call then answers
-// `NoRoom`, and writes nothing. A pop zeroes the place that it frees at once, and no call touches a place above its own last.
+// The store is as long as the shorter slice. No call returns a count above that. If one is passed all the same, the call
+// answers `NoRoom` and writes nothing. A pop zeroes the place that it frees at once, and no call touches a place above its own last.
 ghost use mathlib.Core.Path.{_≡_};
 ghost use Rattle.heap.specs.Heap.{heap, entry};
 ghost use Rattle.heap.specs.Calls.{after, pushOf, peekOf, popOf};

@@ -1,1 +1,2 @@
+-- The proof of the table.
 pub mod Table

@@ -1,1 +1,2 @@
+-- The known cases.
 pub mod Known

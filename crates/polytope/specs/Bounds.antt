@@ -21,7 +21,7 @@ pub record Good (n c : ℕ) (h : Heap) : Type 0 where
   pub counts : h .count ≡ c
   pub each : AllIn n c (h .faces)
 
--- between two expansions: each neighbour and each entry of the heap is a face, each corner a vertex, and no face is queued twice over
+-- between two expansions: each neighbour and each entry of the heap is a face, each corner a vertex, and the heap has no more entries than there are faces
 pub record Sound (s : State) : Type 0 where
   pub some : 0 < s .faces .count
   pub adjIn : AllIn (s .faces .count) (s .faces .count * 3) (s .faces .adj)
@@ -29,8 +29,7 @@ pub record Sound (s : State) : Type 0 where
   pub queueIn : Good (s .faces .count) (s .queue .count) (s .queue)
   pub queueFew : s .queue .count ≤ s .faces .count
 
--- the stores, and the best face, that k expansions leave from the stores s, by the steps of `turns`; the run's own are those where the tolerance and the first best
--- face are the run's
+-- what k expansions leave, from the stores s on: the best face and the stores. Any tolerance and any first best face are allowed, so the run's own are among them
 pub data Between (w : World) (r : Rooms) (x : VoronoiSimplex) (s : State) : ℕ → Best → State → Type 0 where
   started : (tol : Float) (b : Best) (t u : State) → startVertices w r x s ≡ onward tt t → startFaces w r (x .dim) tol t ≡ onward tt u → b .face < u .faces .count
       → Between w r x s 0 b u

@@ -1,6 +1,6 @@
 -- The polytope's run, `EPA::closest_points` of src/query/epa/epa3.rs, over stores that the caller lends: any format, any support function, in the Rust's order. Definitions only.
 -- A store is lists and a count; a push writes at the count, and is refused where the count is the store's room. A place outside a list reads as 0, as a NaN, or as
--- deleted: the laws of proofs/ (`Sound`) say that none is read.
+-- deleted; between two expansions all numbers are in range (`in-range` of proofs/Rule.antt).
 use Prim.Native.Nat.{ℕ, zero, suc, _+_, _-_, _*_, _/_, _%_, min, max}
 use mathlib.Core.Bool.{Bool, true, false, cond, not, _&&_, _||_}
 use mathlib.Core.List.{List, [], _∷_}
@@ -84,7 +84,8 @@ pub record State : Type 0 where
   pub done : ℕ
   pub most : ℕ
 
--- the lists that the caller lends, and the counts
+-- the lists that the caller lends, and the counts. The same letters stand in all contracts: v the vertices; p the corners, a the neighbours, n the normals and weights, d
+-- the deletion marks of the faces; ef and ec the edges' faces and corners; hf and hk the heap's faces and keys; with a prime, what is left
 abbrev pub stateOf : List Float → List ℕ → List ℕ → List Float → List ℕ → List ℕ → List ℕ → List ℕ → List Float → Run → State
 stateOf v p a n d ef ec hf hk r =
     record {
@@ -185,6 +186,8 @@ abbrev pub stepOut : (Run → State) → Step → Out (Unit {0})
 stepOut lists (Onward r) = onward tt (lists r)
 stepOut lists (Ended e r) = ended e (lists r)
 
+-- A step takes the stores, and goes on with a value and the stores that it leaves, or ends the run. In a `do` block each line is a step, in order: `s ← look` names the stores as they
+-- are at that line, `put t` makes t the stores, `stopIf b e` ends the run with e if b holds, and no later line is taken; `doIf` is if, `branch` if-else, `>>` then, and `pure x` hands x on
 abbrev pub Act : Type 0 → Type 0
 Act A = State → Out A
 
@@ -320,9 +323,9 @@ distTol f l n = _⊗_ f (epsTol f) (larger (scaleOf f l n) oneF)
 unfoldable pub exchanged : List Float → List Float
 exchanged l = putVertex (putVertex l 1 (vertexAt l 2)) 2 (vertexAt l 1)
 
--- whether four vertices wind so that 1 and 2 have to be exchanged
-unfoldable pub windsOut : Format → List Float → Bool
-windsOut f l =
+-- whether the faces of four vertices would have their normals inward, so that vertices 1 and 2 have to be exchanged
+unfoldable pub windsInward : Format → List Float → Bool
+windsInward f l =
     let p0 = vertexAt l 0 .point in
     let dp1 = subV f (vertexAt l 1 .point) p0 in
     let dp2 = subV f (vertexAt l 2 .point) p0 in
@@ -362,7 +365,7 @@ unfoldable pub startFour : World → Rooms → Float → Act Nil
 startFour w r tol = do
   s ← look
   let v = s .verts
-  doIf (windsOut (w .format) (v .cells)) (put (withVerts s (record { cells = exchanged (v .cells); count = v .count })))
+  doIf (windsInward (w .format) (v .cells)) (put (withVerts s (record { cells = exchanged (v .cells); count = v .count })))
   t ← look
   let m1 = madeOf w t 0 1 2
   let m2 = madeOf w t 1 3 2

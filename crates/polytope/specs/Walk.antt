@@ -61,8 +61,8 @@ noted room fs cs n f c = notedIf (ltb n room) fs cs n f c
 -- room does nothing more; a deleted face does nothing; a live face that is not seen is an edge; one that is seen is deleted,
 -- and its two other neighbours are asked, in order
 abbrev pub askIf : WalkAnswer → Bool → Bool → Mesh → (Walked → Question → Walked) → Walked → Question → Walked
-askIf NoRoom d v m go s q = s
-askIf (Done n) false v m go s q = s
+askIf NoRoom live seen m go s q = s
+askIf (Done n) false seen m go s q = s
 askIf (Done n) true false m go s q = walked (s .dead) (noted (m .room) (s .edged .faces) (s .edged .corners) n (q .face) (q .corner))
 askIf (Done n) true true m go s q =
     go (go (walked (set (s .dead) (q .face) 1) (s .edged)) (facing (m .pts) (m .adj) (q .face) ((q .corner + 2) % 3)))

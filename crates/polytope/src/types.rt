@@ -3,7 +3,7 @@
 use vector::Vec3;
 
 // A face, and a corner of it: whether the face is seen, asked across the side that the corner lies opposite
-// (`SilhouetteEdge` of epa3.rs, before it is one).
+// (the Rust's `face_id` and `opp_pt_id`).
 pub struct Question {
     pub face: usize,
     pub corner: usize,
@@ -16,7 +16,7 @@ pub enum WalkAnswer {
 }
 
 // What a face is made of, besides the numbers of its corners and neighbours: the normal, the weights of the
-// corners, and whether it holds the projection of the origin (`Face::new`).
+// corners, and whether it holds the projection of the origin (of `Face::new`: `normal`, `bcoords` and `proj_inside`).
 pub struct Made {
     pub normal: Vec3,
     pub weights: Vec3,
@@ -113,7 +113,7 @@ pub enum Step {
 }
 
 // What is known of an expansion under way: the face that is expanded, its distance, the new vertex, and the
-// tolerance of the keys.
+// tolerance of the keys (the Rust's `face_id.id`, `curr_dist`, `support_point_id` and `dist_tol`).
 pub struct Turn {
     pub face: usize,
     pub dist: f32,
@@ -122,7 +122,7 @@ pub struct Turn {
 }
 
 // What is carried from one expansion to the next: the best face, the best bound, and the distance of the
-// last face.
+// last face (the Rust's `best_face_id`, `max_dist` and `old_dist`).
 pub struct Best {
     pub face: usize,
     pub bound: f32,

@@ -35,6 +35,7 @@ pub fn made_of(vertices: &[f32], a: usize, b: usize, c: usize) -> Made
     face_new(p0, p1, p2)
 }
 
+// A vertex is pushed, where there is room.
 pub fn push_vertex(vertices: &mut [f32], rooms: Rooms, run: Run, v: Vertex) -> Step
     ensures { λ r. ⌜ PushesVertex rooms run v (now (vertices .entry)) (now (vertices .exit)) r ⌝ }
 {
@@ -74,6 +75,7 @@ pub fn put_face(
     set_dead(dead, n, 0);
 }
 
+// A live face is pushed, where there is room.
 pub fn push_face(
     pts: &mut [usize],
     adj: &mut [usize],

@@ -1,4 +1,5 @@
 // A face with its key, and the answer to a key.
+
 // A face and its key, the negated distance (`FaceId` of epa3.rs).
 pub struct FaceId {
     pub id: usize,

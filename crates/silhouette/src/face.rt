@@ -121,6 +121,7 @@ pub fn can_be_seen_by(
     ensures { λ r. ⌜ r ≡ canBeSeenBy binary32 (now (vertices .entry)) (now (pts .entry)) (now (nums .entry)) point (question face «opp_pt_id») ⌝ }
 {
     let p0 = vertex_at(vertices, three_at(pts, face, opp_pt_id)).point;
+    // `% 3` first, so that no sum overflows; the value is the Rust's
     let p1 = vertex_at(vertices, three_at(pts, face, (opp_pt_id % 3 + 1) % 3)).point;
     let p2 = vertex_at(vertices, three_at(pts, face, (opp_pt_id % 3 + 2) % 3)).point;
     let pt = vertex_at(vertices, point).point;

@@ -1,6 +1,6 @@
 // Reads and writes of the lent stores. A place that a store hasn't got reads as 0, as NaNs, or as deleted, and a
-// write to it does nothing: so these ask nothing of their caller. The run never comes to such a place
-// (`Sound` of the crate `polytope`).
+// write to it does nothing: so these ask nothing of their caller. Between two expansions every number
+// that a store holds is in range (`in-range` of the crate `polytope`).
 ghost use mathlib.Core.Path.{_≡_};
 ghost use Prim.Native.Nat.{_+_, _-_, _*_, _≤_};
 ghost use mathlib.Core.List.{[]};

@@ -1,11 +1,11 @@
--- What `winds_out` returns. Assumes nothing.
+-- What `winds_inward` returns. Assumes nothing.
 use lib.Ieee.{ofBits}
-use Rattle.polytope.specs.Polytope.{windsOut}
-use Rattle.first_faces.proofs.four.winds_out.Statement.{statement}
-use Rattle.first_faces.proofs.four.winds_out.Tie as tie
+use Rattle.polytope.specs.Polytope.{windsInward}
+use Rattle.first_faces.proofs.four.winds_inward.Statement.{statement}
+use Rattle.first_faces.proofs.four.winds_inward.Tie as tie
 
 returns : tie.Need-returns
-unfolding windsOut ofBits
+unfolding windsInward ofBits
 returns c =
     let at-cross = c .before in
     let at-sub3 = at-cross .before in
@@ -17,5 +17,5 @@ returns c =
     let at-vertex-at = at-vertex-at2 .before .before in
     simp (← c .dot .ensures, ← at-cross .cross .ensures, ← at-sub3 .sub3 .ensures, ← at-vertex-at4 .vertex-at4 .ensures, ← at-sub2 .sub2 .ensures, ← at-vertex-at3 .vertex-at3 .ensures, ← at-sub .sub .ensures, ← at-vertex-at2 .vertex-at2 .ensures, ← at-vertex-at .vertex-at .ensures)
 
-pub winds-out-spec : {M : Type 1} → statement M
-winds-out-spec = tie.close (tie.spec (λ c κs. tt) (λ c κs. tt) (λ c κs. tt) (λ c κs. tt) (λ c κs. tt) (λ c κs. tt) (λ c κs. tt) (λ c κs. tt) (λ c κs. tt) returns)
+pub winds-inward-spec : {M : Type 1} → statement M
+winds-inward-spec = tie.close (tie.spec (λ c κs. tt) (λ c κs. tt) (λ c κs. tt) (λ c κs. tt) (λ c κs. tt) (λ c κs. tt) (λ c κs. tt) (λ c κs. tt) (λ c κs. tt) returns)
