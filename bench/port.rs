@@ -7,7 +7,7 @@ mod separation;
 use crate::casefile::{self, Record};
 use crate::channel::ROOMS;
 use crate::Checksum;
-use separation::{Answer, Pose, Shape, Stores, Vector};
+use separation::{Answer, Edge, Pose, Shape, Stores, Vector};
 
 /// The letters of document 01 in the order of the outcomes' numbers.
 const LETTERS: &[u8; 7] = b"DMSPNXR";
@@ -58,8 +58,7 @@ pub struct Room {
     adj: Vec<usize>,
     nums: Vec<f32>,
     dead: Vec<u8>,
-    edge_face: Vec<usize>,
-    edge_corner: Vec<usize>,
+    edges: Vec<Edge>,
     heap_face: Vec<usize>,
     heap_key: Vec<f32>,
 }
@@ -72,8 +71,7 @@ impl Default for Room {
             adj: vec![0; 3 * ROOMS.faces],
             nums: vec![0.0; 6 * ROOMS.faces],
             dead: vec![0; ROOMS.faces],
-            edge_face: vec![0; ROOMS.edges],
-            edge_corner: vec![0; ROOMS.edges],
+            edges: vec![Edge { face: 0, corner: 0 }; ROOMS.edges],
             heap_face: vec![0; ROOMS.heap],
             heap_key: vec![0.0; ROOMS.heap],
         }
@@ -88,8 +86,7 @@ impl Room {
             adj: &mut self.adj,
             nums: &mut self.nums,
             dead: &mut self.dead,
-            edge_face: &mut self.edge_face,
-            edge_corner: &mut self.edge_corner,
+            edges: &mut self.edges,
             heap_face: &mut self.heap_face,
             heap_key: &mut self.heap_key,
         }
