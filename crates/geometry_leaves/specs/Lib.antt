@@ -1,3 +1,4 @@
+-- What the contracts of this crate cite.
 pub mod Shapes
 pub mod Projections
 pub mod Simplices

@@ -36,11 +36,6 @@ pub not-done : {b : Bool} (a : Act Nil) (s : State) → b ≡ false → onward t
 unfolding doIf
 not-done a s t = rw t
 
--- a step that is not taken, and what follows it
-pub passed-over : {b : Bool} (a k : Act Nil) (s : State) {o : Out Nil} → b ≡ false → o ≡ k s → o ≡ (doIf b a >> k) s
-unfolding doIf _>>_
-passed-over a k s t g = rw t g
-
 -- the way that is taken where two part
 pub first-way : {b : Bool} (a k : Act Nil) (s : State) {o : Out Nil} → b ≡ true → o ≡ a s → o ≡ branch b a k s
 unfolding branch

@@ -1,1 +1,2 @@
+-- Laws on plain values.
 pub mod Posed

@@ -138,7 +138,3 @@ reduced-projection f s = by (isSimplex s) (λ e. reduced-at s (s .dim) (findLoca
         → cond b (reducedAt s (findLocation f s)) (record { simplex = s; projection = Refused }) .projection ≡ cond b (pointOf (findLocation f s)) Refused
     by true h = h refl
     by false h = refl
-
--- so where the projection is a point, the reduction gives that point
-pub reduces-where-projects : (f : Format) (s : VoronoiSimplex) (p : Vec3) → projectOrigin f s ≡ At p → projectOriginAndReduce f s .projection ≡ At p
-reduces-where-projects f s p e = reduced-projection f s ∙ e

@@ -1,2 +1,3 @@
+-- Laws of the definitions: what is a simplex, and that a location fits.
 pub mod Laws
 pub mod Fits
