@@ -17,7 +17,7 @@ use Rattle.polytope.specs.declared.types.End.{End}
 use Rattle.polytope.specs.declared.types.End.the-variants.{Panics}
 use Rattle.polytope.specs.declared.types.Step.{Step}
 use Rattle.polytope.specs.declared.types.Step.the-variants.{Onward, Ended}
-use Rattle.polytope.specs.Polytope.{World, State, Out, Act, Nil, stateOf, stepOut, distTol, startVertices, startFaces, expansions, epa, noneYet, roomsOf, closestPoints, runEpa, fresh, stopIf, next, look, _>>=_, _>>_}
+use Rattle.polytope.specs.Polytope.{World, State, Out, onward, ended, Act, Nil, stateOf, stepOut, distTol, startVertices, startFaces, expansions, epa, noneYet, roomsOf, closestPoints, runEpa, fresh, stopIf, next, look, _>>=_, _>>_}
 use Rattle.polytope.proofs.Steps.{Meets, meets-then, meets-stopIf}
 use Rattle.pushes.specs.Contracts.{worldBy, heapRoom}
 use Rattle.start.specs.Contracts.{StartsVertices}
@@ -27,7 +27,11 @@ use Rattle.epa.specs.Final.{finalBy, finalOf, penetration}
 use Rattle.epa.specs.declared.types.Answer.{Answer}
 use Rattle.epa.proofs.Counts.{Counted, counted}
 use Rattle.epa.proofs.Starts.{counted-vertices, counted-faces}
-use Rattle.epa.proofs.Turning.{bind-twice}
+
+-- three steps, the last two together or the first two
+bind-twice : {A B C : Type 0} (o : Out A) (k : A → Act B) (l : B → Act C) → next (next o k) l ≡ next o (λ x s. next (k x s) l)
+bind-twice (onward x s) k l = refl
+bind-twice (ended e s) k l = refl
 
 -- the heap's room is what its lists hold, and these keep their lengths
 same-room : (rooms : Rooms) (hf hf' : List ℕ) (hk hk' : List Float) → rooms .heap ≡ min (length hf) (length hk) → length hf' ≡ length hf → length hk' ≡ length hk → heapRoom rooms hf' hk' ≡ rooms
@@ -36,12 +40,15 @@ same-room rooms hf hf' hk hk' e kf kk =
     ap (λ (k : ℕ). record { vertices = rooms .vertices; faces = rooms .faces; edges = rooms .edges; heap = k }) is
 
 module _ (m : Pose) (g1 g2 : Shape) (rooms : Rooms) (x : VoronoiSimplex) (v : List Float) (p a : List ℕ) (n : List Float) (d ef ec hf : List ℕ) (hk : List Float)
-    (room : rooms .heap ≡ min (length hf) (length hk)) (v' : List Float) (r : Step) (g : StartsVertices m g1 g2 rooms noneYet x v v' r) where
+    (room : rooms .heap ≡ min (length hf) (length hk)) (run0 : Run) (none : run0 ≡ noneYet) (v' : List Float) (r : Step) (g0 : StartsVertices m g1 g2 rooms run0 x v v' r) where
   abbrev W : World
   W = worldBy m g1 g2
 
   abbrev lists : Run → State
   lists c = stateOf v' p a n d ef ec hf hk c
+
+  g : StartsVertices m g1 g2 rooms noneYet x v v' r
+  g = subst (λ (k : Run). StartsVertices m g1 g2 rooms k x v v' r) none g0
 
   -- what comes after the vertices
   abbrev rest : Act Nil

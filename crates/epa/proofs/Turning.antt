@@ -21,30 +21,42 @@ use Rattle.polytope.specs.declared.types.End.{End}
 use Rattle.polytope.specs.declared.types.End.the-variants.{Nothing}
 use Rattle.polytope.specs.declared.types.Step.{Step}
 use Rattle.polytope.specs.declared.types.Step.the-variants.{Ended}
-use Rattle.polytope.specs.Polytope.{World, State, Out, Act, Nil, onward, ended, stateOf, answerOf, answer, turn, turnIf, popLive, turns, expansions, stop, stopIf, next, look, _>>=_, _>>_}
-use Rattle.polytope.proofs.Steps.{Meets, meets-bind}
+use Rattle.polytope.specs.Polytope.{World, State, Out, Act, Nil, stateOf, answerOf, answer, turn, turnIf, popLive, complete, nextTurn, turns, expansions, pure, stop, stopIf, next, look, put, _>>=_, _>>_}
+use Rattle.polytope.proofs.Steps.{Meets}
 use Rattle.pushes.specs.declared.types.FaceId.{FaceId}
 use Rattle.pushes.specs.declared.types.MaybeFaceId.{MaybeFaceId}
 use Rattle.pushes.specs.declared.types.MaybeFaceId.the-variants as MaybeFace
 use Rattle.pushes.specs.Contracts.{worldBy, heapRoom}
 use Rattle.epa.specs.declared.types.Popped.{Popped}
-use Rattle.epa.specs.declared.types.Turned.{Turned}
-use Rattle.epa.specs.declared.types.Turned.the-variants as Turning
-use Rattle.epa.specs.Contracts.{turnedOut, Turns, NextTurns, poppedOut, withHeap, PopsLive, TurnsReady, TurnsAll, Expansions}
-use Rattle.epa.proofs.Counts.{Counted, counted, counted-turn, counted-popLive}
+use Rattle.turn.specs.declared.types.Turned.{Turned}
+use Rattle.turn.specs.declared.types.Turned.the-variants as Turning
+use Rattle.turn.specs.Contracts.{turnedOut, Turns}
+use Rattle.epa.specs.Contracts.{Early, completedOf, NextTurns, poppedOut, withHeap, PopsLive, TurnsReady, TurnsAll, Expansions}
+use Rattle.epa.proofs.Counts.{Counted, counted, counted-turn, counted-nextTurn}
 
 -- ---- the next turn
+
+-- where a turn goes on, the expansion is complete
+completed-out : (v : List Float) (p a : List ℕ) (n : List Float) (d ef ec hf : List ℕ) (hk : List Float) (r : Turned)
+    → turnedOut (λ c. stateOf v p a n d ef ec hf hk c) (completedOf r) ≡ next (turnedOut (λ c. stateOf v p a n d ef ec hf hk c) r) (λ b1. _>>_ complete (pure b1))
+unfolding complete pure look put _>>=_ _>>_
+completed-out v p a n d ef ec hf hk (Turning.Next b x) = refl
+completed-out v p a n d ef ec hf hk (Turning.Ended e x) = refl
 
 module _ (m : Pose) (g1 g2 : Shape) (rooms : Rooms) (run : Run) (tol : Float) (b : Best) (v : List Float) (p a : List ℕ) (n : List Float) (d ef ec hf : List ℕ) (hk : List Float)
     (hf' : List ℕ) (hk' : List Float) (x : Popped) (g : PopsLive (run .heap) d hf hk hf' hk' x) where
   abbrev left : Run
   left = withHeap run (x .heap)
 
+  -- what is done with the entry that was popped
+  abbrev expanding : Option Entry → Act Best
+  expanding o s = next (turnIf (worldBy m g1 g2) (heapRoom rooms hf hk) tol b o s) (λ b1. _>>_ complete (pure b1))
+
   -- what was popped, by the answer's entry
-  pops : (y : MaybeFaceId) → x .entry ≡ y → next (poppedOut (λ c. stateOf v p a n d ef ec hf' hk' c) left y) (turnIf (worldBy m g1 g2) (heapRoom rooms hf hk) tol b)
-      ≡ (popLive (run .heap) >>= turnIf (worldBy m g1 g2) (heapRoom rooms hf hk) tol b) (stateOf v p a n d ef ec hf hk run)
-  unfolding _>>=_
-  pops y t = ap (λ (o : Out (Option Entry)). next o (turnIf (worldBy m g1 g2) (heapRoom rooms hf hk) tol b)) (subst (λ (z : MaybeFaceId). poppedOut (λ c. stateOf v p a n d ef ec hf' hk' c) left z ≡ popLive (run .heap) (stateOf v p a n d ef ec hf hk run)) t (g run v p a n ef ec))
+  pops : (y : MaybeFaceId) → x .entry ≡ y → next (poppedOut (λ c. stateOf v p a n d ef ec hf' hk' c) left y) expanding
+      ≡ nextTurn (worldBy m g1 g2) (heapRoom rooms hf hk) tol b (stateOf v p a n d ef ec hf hk run)
+  unfolding nextTurn look _>>=_
+  pops y t = ap (λ (o : Out (Option Entry)). next o expanding) (subst (λ (z : MaybeFaceId). poppedOut (λ c. stateOf v p a n d ef ec hf' hk' c) left z ≡ popLive (run .heap) (stateOf v p a n d ef ec hf hk run)) t (g run v p a n ef ec))
 
   pub none-left : (e : End) → x .entry ≡ MaybeFace.None → e ≡ answerOf binary32 HeapEmpty v p n (b .face) → NextTurns m g1 g2 rooms run tol b v p a n d ef ec hf hk v p a n d ef ec hf' hk' (Turning.Ended e left)
   unfolding answer stop look _>>=_
@@ -52,29 +64,26 @@ module _ (m : Pose) (g1 g2 : Shape) (rooms : Rooms) (run : Run) (tol : Float) (b
 
   module _ (i : FaceId) (t : x .entry ≡ MaybeFace.Some i) (kf : length hf' ≡ length hf) (kk : length hk' ≡ length hk) where
     pub next-turned : (v2 : List Float) (p2 a2 : List ℕ) (n2 : List Float) (d2 ef2 ec2 hf2 : List ℕ) (hk2 : List Float) (r : Turned)
-        → Turns m g1 g2 rooms left tol b i v p a n d ef ec hf' hk' v2 p2 a2 n2 d2 ef2 ec2 hf2 hk2 r → NextTurns m g1 g2 rooms run tol b v p a n d ef ec hf hk v2 p2 a2 n2 d2 ef2 ec2 hf2 hk2 r
+        → Turns m g1 g2 rooms left tol b i v p a n d ef ec hf' hk' v2 p2 a2 n2 d2 ef2 ec2 hf2 hk2 r → NextTurns m g1 g2 rooms run tol b v p a n d ef ec hf hk v2 p2 a2 n2 d2 ef2 ec2 hf2 hk2 (completedOf r)
     next-turned v2 p2 a2 n2 d2 ef2 ec2 hf2 hk2 r h =
         let same : heapRoom rooms hf' hk' ≡ heapRoom rooms hf hk = rw (kf, kk) in
-        subst (λ (y : Rooms). turnedOut (λ c. stateOf v2 p2 a2 n2 d2 ef2 ec2 hf2 hk2 c) r ≡ turn (worldBy m g1 g2) y tol b (record { face = i .id; key = i .«neg_dist» }) (stateOf v p a n d ef ec hf' hk' left)) same h
+        let told = subst (λ (y : Rooms). turnedOut (λ c. stateOf v2 p2 a2 n2 d2 ef2 ec2 hf2 hk2 c) r ≡ turn (worldBy m g1 g2) y tol b (record { face = i .id; key = i .«neg_dist» }) (stateOf v p a n d ef ec hf' hk' left)) same h in
+        completed-out v2 p2 a2 n2 d2 ef2 ec2 hf2 hk2 r
+        ∙ ap (λ (o : Out Best). next o (λ b1. _>>_ complete (pure b1))) told
         ∙ pops (MaybeFace.Some i) t
 
--- ---- the counts after a turn
-
-counted-turnIf : (r : Rooms) (q k : ℕ) (w : World) (tol : Float) (b : Best) (o : Option Entry) (s : State) → Counted r k q s → Meets (λ _ t. Counted r (suc k) q t) (λ _ _. Unit {0}) (turnIf w r tol b o s)
-unfolding answer stop look _>>=_
-counted-turnIf r q k w tol b none s h = record { held = tt }
-counted-turnIf r q k w tol b (some e) s h = counted-turn r q k w tol b e s h
-
-counted-next : (r : Rooms) (w : World) (tol : Float) (b : Best) (s : State) → Meets (λ _ t. Counted r (suc (s .done)) (s .queue .count) t) (λ _ _. Unit {0}) ((popLive (s .queue .count) >>= turnIf w r tol b) s)
-counted-next r w tol b s =
-    meets-bind _ _ _ _ _ s (counted-popLive r (s .queue .count) (s .done) (s .queue .count) s refl (counted r s))
-    λ o t h. counted-turnIf r (s .queue .count) (s .done) w tol b o t (h .0)
+-- a turn does not count itself
+module _ (m : Pose) (g1 g2 : Shape) (rooms : Rooms) (run : Run) (tol : Float) (b : Best) (e : FaceId) (v : List Float) (p a : List ℕ) (n : List Float) (d ef ec hf : List ℕ) (hk : List Float) (early : run .done ≤ 100)
+    (v' : List Float) (p' a' : List ℕ) (n' : List Float) (d' ef' ec' hf' : List ℕ) (hk' : List Float) where
+  pub turned-early : (r : Turned) → Turns m g1 g2 rooms run tol b e v p a n d ef ec hf hk v' p' a' n' d' ef' ec' hf' hk' r → Early r
+  turned-early (Turning.Ended x y) g = tt
+  turned-early (Turning.Next b1 x) g =
+      let s = stateOf v p a n d ef ec hf hk run in
+      let c = counted-turn (heapRoom rooms hf hk) (run .heap) (run .done) (worldBy m g1 g2) tol b (record { face = e .id; key = e .«neg_dist» }) s (counted (heapRoom rooms hf hk) s) in
+      let h = (rw (sym g) at c) .held in
+      omega (arith, early, h .completed)
 
 -- ---- the loop: what is left of the turns does the same as all did at first
-
-pub bind-twice : {A B C : Type 0} (o : Out A) (k : A → Act B) (l : B → Act C) → next (next o k) l ≡ next o (λ x s. next (k x s) l)
-bind-twice (onward x s) k l = refl
-bind-twice (ended e s) k l = refl
 
 module _ (m : Pose) (g1 g2 : Shape) (rooms : Rooms) (tol : Float) (most : ℕ) (v0 : List Float) (p0 a0 : List ℕ) (n0 : List Float) (d0 ef0 ec0 hf0 : List ℕ) (hk0 : List Float) (run0 : Run) (b0 : Best) where
   abbrev W : World
@@ -114,18 +123,17 @@ module _ (m : Pose) (g1 g2 : Shape) (rooms : Rooms) (tol : Float) (most : ℕ) (
 
     module _ (v' : List Float) (p' a' : List ℕ) (n' : List Float) (d' ef' ec' hf' : List ℕ) (hk' : List Float) (r : Turned) (more : 0 < k) (g : NextTurns m g1 g2 rooms run tol b v p a n d ef ec hf hk v' p' a' n' d' ef' ec' hf' hk' r) where
       -- the turn, with the heap's room as it was at first
-      one : turnedOut (λ c. stateOf v' p' a' n' d' ef' ec' hf' hk' c) r ≡ (popLive (run .heap) >>= turnIf W R tol b) (stateOf v p a n d ef ec hf hk run)
+      one : turnedOut (λ c. stateOf v' p' a' n' d' ef' ec' hf' hk' c) r ≡ nextTurn W R tol b (stateOf v p a n d ef ec hf hk run)
       one =
           let same : heapRoom rooms hf hk ≡ R = rw (h .sameFaces, h .sameKeys) in
-          subst (λ (y : Rooms). turnedOut (λ c. stateOf v' p' a' n' d' ef' ec' hf' hk' c) r ≡ (popLive (run .heap) >>= turnIf W y tol b) (stateOf v p a n d ef ec hf hk run)) same g
+          subst (λ (y : Rooms). turnedOut (λ c. stateOf v' p' a' n' d' ef' ec' hf' hk' c) r ≡ nextTurn W y tol b (stateOf v p a n d ef ec hf hk run)) same g
 
       one-turn : (y : Turned) → r ≡ y → next (turnedOut (λ c. stateOf v' p' a' n' d' ef' ec' hf' hk' c) y) (turns W R tol (k - 1)) ≡ Whole
-      unfolding turns look _>>=_
+      unfolding turns _>>=_
       one-turn y t =
           let z : k ≡ suc (k - 1) = omega arith in
           let whole = subst (λ (j : ℕ). turns W R tol j b (stateOf v p a n d ef ec hf hk run) ≡ Whole) z (h .goesOn) in
           ap (λ (o : Out Best). next o (turns W R tol (k - 1))) (ap (λ (x : Turned). turnedOut (λ c. stateOf v' p' a' n' d' ef' ec' hf' hk' c) x) (sym t) ∙ one)
-          ∙ bind-twice (popLive (run .heap) (stateOf v p a n d ef ec hf hk run)) (turnIf W R tol b) (turns W R tol (k - 1))
           ∙ whole
 
       pub turns-end : (e : End) (x : Run) → r ≡ Turning.Ended e x → TurnsAll m g1 g2 rooms run0 tol most b0 v0 p0 a0 n0 d0 ef0 ec0 hf0 hk0 v' p' a' n' d' ef' ec' hf' hk' (Ended e x)
@@ -135,8 +143,8 @@ module _ (m : Pose) (g1 g2 : Shape) (rooms : Rooms) (tol : Float) (most : ℕ) (
           (kef : length ef' ≡ length ef) (kec : length ec' ≡ length ec) (kf : length hf' ≡ length hf) (kk : length hk' ≡ length hk) where
         counts : Counted R (suc (run .done)) (run .heap) (stateOf v' p' a' n' d' ef' ec' hf' hk' x)
         counts =
-            let told : turnedOut (λ c. stateOf v' p' a' n' d' ef' ec' hf' hk' c) (Turning.Next b1 x) ≡ (popLive (run .heap) >>= turnIf W R tol b) (stateOf v p a n d ef ec hf hk run) = ap (λ (y : Turned). turnedOut (λ c. stateOf v' p' a' n' d' ef' ec' hf' hk' c) y) (sym t) ∙ one in
-            (subst (λ (o : Out Best). Meets (λ _ t. Counted R (suc (run .done)) (run .heap) t) (λ _ _. Unit {0}) o) (sym told) (counted-next R W tol b (stateOf v p a n d ef ec hf hk run))) .held
+            let told : turnedOut (λ c. stateOf v' p' a' n' d' ef' ec' hf' hk' c) (Turning.Next b1 x) ≡ nextTurn W R tol b (stateOf v p a n d ef ec hf hk run) = ap (λ (y : Turned). turnedOut (λ c. stateOf v' p' a' n' d' ef' ec' hf' hk' c) y) (sym t) ∙ one in
+            (subst (λ (o : Out Best). Meets (λ _ t. Counted R (suc (run .done)) (run .heap) t) (λ _ _. Unit {0}) o) (sym told) (counted-nextTurn R W tol b (stateOf v p a n d ef ec hf hk run))) .held
 
         pub turns-again : TurnLoop v' p' a' n' d' ef' ec' hf' hk' x b1 (k - 1)
         turns-again =

@@ -12,10 +12,9 @@ use Rattle.shape.specs.declared.shape.Shape.{Shape}
 use Rattle.shape.specs.declared.vertex.Vertex.{Vertex}
 use Rattle.simplex.specs.declared.simplex.VoronoiSimplex.{VoronoiSimplex}
 use Rattle.heap.specs.Heap.{Entry}
-use Rattle.polytope.specs.Polytope.{worldOf, State, stateOf, stepOut, Out, onward, ended, liveTo, epa, complete, closeRing, regrow, expand, advance, turn, popLive, turnIf, turns, _>>=_, expansions, noneYet}
+use Rattle.polytope.specs.Polytope.{worldOf, State, stateOf, stepOut, Out, onward, ended, liveTo, epa, popLive, nextTurn, turns, expansions, noneYet}
 use Rattle.polytope.specs.declared.types.Run.{Run}
 use Rattle.polytope.specs.declared.types.Rooms.{Rooms}
-use Rattle.polytope.specs.declared.types.Turn.{Turn}
 use Rattle.polytope.specs.declared.types.Best.{Best}
 use Rattle.polytope.specs.declared.types.Step.{Step}
 use Rattle.polytope.specs.declared.types.Step.the-variants.{Onward, Ended}
@@ -25,35 +24,12 @@ use Rattle.pushes.specs.declared.types.FaceId.{FaceId}
 use Rattle.pushes.specs.declared.types.MaybeFaceId.{MaybeFaceId}
 use Rattle.pushes.specs.declared.types.MaybeFaceId.the-variants as MaybeFace
 use Rattle.epa.specs.declared.types.Popped.{Popped}
-use Rattle.epa.specs.declared.types.Turned.{Turned}
-use Rattle.epa.specs.declared.types.Turned.the-variants as Turning
+use Rattle.turn.specs.declared.types.Turned.{Turned}
+use Rattle.turn.specs.declared.types.Turned.the-variants as Turning
+use Rattle.turn.specs.Contracts.{turnedOut}
 use Rattle.epa.specs.declared.types.Counts.{Counts}
 use Rattle.epa.specs.declared.types.Answer.{Answer}
 use Rattle.pushes.specs.Contracts.{worldBy, heapRoom}
-
--- `complete`
-abbrev pub Completes : Run → List ℕ → List ℕ → List ℕ → List ℕ → Step → Type 0
-Completes run ef ec ef' ec' r =
-    (v : List Float) (p a : List ℕ) (n : List Float) (d hf : List ℕ) (hk : List Float)
-    → stepOut (λ c. stateOf v p a n d ef' ec' hf hk c) r ≡ complete (stateOf v p a n d ef ec hf hk run)
-
--- `closeRing`
-abbrev pub Closes : Run → ℕ → List ℕ → List ℕ → List ℕ → List ℕ → List ℕ → List ℕ → Step → Type 0
-Closes run first a ef ec a' ef' ec' r =
-    (v : List Float) (p : List ℕ) (n : List Float) (d hf : List ℕ) (hk : List Float)
-    → stepOut (λ c. stateOf v p a' n d ef' ec' hf hk c) r ≡ closeRing first (stateOf v p a n d ef ec hf hk run)
-
--- `regrow`
-abbrev pub Regrows : Rooms → Run → Turn → List Float → List ℕ → List ℕ → List Float → List ℕ → List ℕ → List ℕ → List ℕ → List Float → List ℕ → List ℕ → List Float → List ℕ → List ℕ → List ℕ → List ℕ → List Float → Step → Type 0
-Regrows rooms run u v p a n d ef ec hf hk p' a' n' d' ef' ec' hf' hk' r =
-    (supp : Vec3 → Vertex)
-    → stepOut (λ c. stateOf v p' a' n' d' ef' ec' hf' hk' c) r ≡ regrow (worldOf binary32 supp) (heapRoom rooms hf hk) u (stateOf v p a n d ef ec hf hk run)
-
--- `expand`
-abbrev pub Expands : Rooms → Run → Turn → List Float → List ℕ → List ℕ → List Float → List ℕ → List ℕ → List ℕ → List ℕ → List Float → List ℕ → List ℕ → List Float → List ℕ → List ℕ → List ℕ → List ℕ → List Float → Step → Type 0
-Expands rooms run u v p a n d ef ec hf hk p' a' n' d' ef' ec' hf' hk' r =
-    (supp : Vec3 → Vertex)
-    → stepOut (λ c. stateOf v p' a' n' d' ef' ec' hf' hk' c) r ≡ expand (worldOf binary32 supp) (heapRoom rooms hf hk) u (stateOf v p a n d ef ec hf hk run)
 
 -- ---- the expansions, one after another
 
@@ -72,35 +48,26 @@ PopsLive k d hf hk hf' hk' r =
     (run : Run) (v : List Float) (p a : List ℕ) (n : List Float) (ef ec : List ℕ)
     → poppedOut (λ c. stateOf v p a n d ef ec hf' hk' c) (withHeap run (r .heap)) (r .entry) ≡ popLive k (stateOf v p a n d ef ec hf hk (withHeap run k))
 
-abbrev pub turnedOut : (Run → State) → Turned → Out Best
-turnedOut lists (Turning.Next b r) = onward b (lists r)
-turnedOut lists (Turning.Ended e r) = ended e (lists r)
+-- a turn that goes on is not above the hundredth that is counted
+abbrev pub Early : Turned → Type 0
+Early (Turning.Next b x) = x .done ≤ 100
+Early (Turning.Ended e x) = Unit {0}
 
--- what goes on to the next expansion
-abbrev pub carriedOf : Step → Best → Turned
-carriedOf (Onward x) b = Turning.Next b x
-carriedOf (Ended e x) b = Turning.Ended e x
-
--- `advance`
-abbrev pub Advances : Rooms → Run → Float → Best → FaceId → ℕ → Float → List Float → List ℕ → List ℕ → List Float → List ℕ → List ℕ → List ℕ → List ℕ → List Float → List ℕ → List ℕ → List Float → List ℕ → List ℕ → List ℕ → List ℕ → List Float → Turned → Type 0
-Advances rooms run tol b e i c v p a n d ef ec hf hk p' a' n' d' ef' ec' hf' hk' r =
-    (supp : Vec3 → Vertex)
-    → turnedOut (λ c. stateOf v p' a' n' d' ef' ec' hf' hk' c) r ≡ advance (worldOf binary32 supp) (heapRoom rooms hf hk) tol b (record { face = e .id; key = e .«neg_dist» }) i c (stateOf v p a n d ef ec hf hk run)
-
--- `turn`
-abbrev pub Turns : Pose → Shape → Shape → Rooms → Run → Float → Best → FaceId → List Float → List ℕ → List ℕ → List Float → List ℕ → List ℕ → List ℕ → List ℕ → List Float → List Float → List ℕ → List ℕ → List Float → List ℕ → List ℕ → List ℕ → List ℕ → List Float → Turned → Type 0
-Turns m g1 g2 rooms run tol b e v p a n d ef ec hf hk v' p' a' n' d' ef' ec' hf' hk' r =
-    turnedOut (λ c. stateOf v' p' a' n' d' ef' ec' hf' hk' c) r ≡ turn (worldBy m g1 g2) (heapRoom rooms hf hk) tol b (record { face = e .id; key = e .«neg_dist» }) (stateOf v p a n d ef ec hf hk run)
+-- the same turn, with one more expansion complete
+abbrev pub completedOf : Turned → Turned
+completedOf (Turning.Next b x) =
+    Turning.Next b (record { vertices = x .vertices; faces = x .faces; edges = x .edges; heap = x .heap; done = x .done + 1; most = x .most })
+completedOf (Turning.Ended e x) = Turning.Ended e x
 
 -- what the turns ask of their caller: that the heap's entries have a place, and that k expansions more are 101 in all
 pub record TurnsReady (run : Run) (k : ℕ) (hf : List ℕ) (hk : List Float) : Type 0 where
   pub entriesIn : run .heap ≤ min (length hf) (length hk)
   pub expansionsLeft : run .done + k ≤ 101
 
--- the next live face is popped, and expanded
+-- `nextTurn`
 abbrev pub NextTurns : Pose → Shape → Shape → Rooms → Run → Float → Best → List Float → List ℕ → List ℕ → List Float → List ℕ → List ℕ → List ℕ → List ℕ → List Float → List Float → List ℕ → List ℕ → List Float → List ℕ → List ℕ → List ℕ → List ℕ → List Float → Turned → Type 0
 NextTurns m g1 g2 rooms run tol b v p a n d ef ec hf hk v' p' a' n' d' ef' ec' hf' hk' r =
-    turnedOut (λ c. stateOf v' p' a' n' d' ef' ec' hf' hk' c) r ≡ (popLive (run .heap) >>= turnIf (worldBy m g1 g2) (heapRoom rooms hf hk) tol b) (stateOf v p a n d ef ec hf hk run)
+    turnedOut (λ c. stateOf v' p' a' n' d' ef' ec' hf' hk' c) r ≡ nextTurn (worldBy m g1 g2) (heapRoom rooms hf hk) tol b (stateOf v p a n d ef ec hf hk run)
 
 -- `turns`
 abbrev pub TurnsAll : Pose → Shape → Shape → Rooms → Run → Float → ℕ → Best → List Float → List ℕ → List ℕ → List Float → List ℕ → List ℕ → List ℕ → List ℕ → List Float → List Float → List ℕ → List ℕ → List Float → List ℕ → List ℕ → List ℕ → List ℕ → List Float → Step → Type 0

@@ -3,7 +3,6 @@
 ghost use mathlib.Core.Path.{_≡_};
 ghost use Rattle.epa.specs.Final.{finalBy, penetration};
 
-mod expansion;
 mod run;
 mod turns;
 mod types;

@@ -50,6 +50,20 @@ pub fn rooms_of(
     }
 }
 
+// Nothing is pushed yet.
+fn none_yet() -> Run
+    ensures { λ r. ⌜ r ≡ noneYet ⌝ }
+{
+    Run {
+        vertices: 0,
+        faces: 0,
+        edges: 0,
+        heap: 0,
+        done: 0,
+        most: 0,
+    }
+}
+
 // The run.
 pub fn epa(
     vertices: &mut [f32],
@@ -70,15 +84,8 @@ pub fn epa(
     requires { ⌜ rooms .heap ≡ min (length (now «heap_face»)) (length (now «heap_key»)) ⌝ }
     ensures { λ r. ⌜ Runs pos12 g1 g2 rooms simplex (now (vertices .entry)) (now (pts .entry)) (now (adj .entry)) (now (nums .entry)) (now (dead .entry)) (now («edge_face» .entry)) (now («edge_corner» .entry)) (now («heap_face» .entry)) (now («heap_key» .entry)) (now (vertices .exit)) (now (pts .exit)) (now (adj .exit)) (now (nums .exit)) (now (dead .exit)) (now («edge_face» .exit)) (now («edge_corner» .exit)) (now («heap_face» .exit)) (now («heap_key» .exit)) r ⌝ }
 {
-    let run = Run {
-        vertices: 0,
-        faces: 0,
-        edges: 0,
-        heap: 0,
-        done: 0,
-        most: 0,
-    };
-    let begun = start_vertices(vertices, pos12, g1, g2, rooms, run, simplex);
+    let run0 = none_yet();
+    let begun = start_vertices(vertices, pos12, g1, g2, rooms, run0, simplex);
     let Step::Onward(run1) = begun else {
         return begun;
     };

@@ -1,19 +1,11 @@
 // What the calls of this crate answer.
-use polytope::Best;
 use polytope::End;
-use polytope::Run;
 use pushes::MaybeFaceId;
 
 // An entry that was popped, or none, and how many are left.
 pub struct Popped {
     pub entry: MaybeFaceId,
     pub heap: usize,
-}
-
-// After an expansion: what is carried to the next, or the run's end.
-pub enum Turned {
-    Next(Best, Run),
-    Ended(End, Run),
 }
 
 // The counts of a whole run: expansions completed, faces made, faces live at the end, and the most edges

@@ -14,7 +14,7 @@ use Rattle.polytope.specs.declared.types.WalkAnswer.the-variants.{Done, 
 use Rattle.polytope.specs.declared.types.Made.{Made}
 use Rattle.heap.specs.Heap.{Entry, pushed, popped}
 use Rattle.polytope.specs.Walk.{Walked, walked, edges, facing, passOf}
-use Rattle.polytope.specs.Polytope.{World, State, Rooms, End, nothing, noRoom, theEdges, keyLater, Found, newFaceNearer, _>>=_, _>>_, Nil, stop, look, put, ok, stopIf, doIf, branch, withFaces, withQueue, oneMore, pushFace, liveTo, live, answerOf, answer, delete, meshOf, afterPass, passed, silhouette, link, linkedTo, Turn, queueNew, growAt, grow, growAll, complete, expand, regrow, closeRing, cornerAt, madeOf, threeN}
+use Rattle.polytope.specs.Polytope.{World, State, Rooms, End, nothing, noRoom, theEdges, keyLater, Found, newFaceNearer, _>>=_, _>>_, Nil, stop, look, put, ok, stopIf, doIf, branch, withFaces, withQueue, oneMore, pushFace, liveTo, live, answerOf, answer, delete, meshOf, afterPass, passed, silhouette, link, linkedTo, Turn, queueNew, growAt, grow, growAll, clearEdges, expand, regrow, closeRing, cornerAt, madeOf, threeN}
 use Rattle.polytope.specs.Bounds.{AllIn, Good, Sound, bound, Within, Tight, with-all, Ended, FromPoint}
 use Rattle.polytope.proofs.Basics.{at-set, in-set, all-set, all-as, all-three, but-second, all-none, live-delete, live-push}
 use Rattle.polytope.proofs.Sizes.{bound-suc}
@@ -30,6 +30,14 @@ module _ (J : State → Type 0) where
   pub record Ready (f k : ℕ) (s : State) : Type 0 where
     pub sound : Sound s
     pub within : Within f k s
+    pub completed : s .done ≡ k
+    pub noEdges : s .edged .count ≡ 0
+    pub kept : J s
+
+  -- the new faces are linked, and the edges cleared; the expansion is not counted yet
+  pub record Grown (f k : ℕ) (s : State) : Type 0 where
+    pub sound : Sound s
+    pub within : Within f (suc k) s
     pub completed : s .done ≡ k
     pub noEdges : s .edged .count ≡ 0
     pub kept : J s
@@ -352,8 +360,8 @@ module _ (J : State → Type 0) where
                 (in-set (s .faces .adj) (first * 3 + 2) (s .faces .count - 1) i (s .faces .count) (omega arith) (h .butLast i hi e))
 
         meets-close : (s : State) → first < s .faces .count → Growing f k (u .point) first all 0 s
-            → Meets (λ _ t. Ready f (suc k) t × (first ≤ t .faces .count)) E (_>>_ (link first 2 (s .faces .count - 1)) (_>>_ (link (s .faces .count - 1) 1 first) complete) s)
-        unfolding link complete _>>=_ _>>_ look put
+            → Meets (λ _ t. Grown f k t × (first ≤ t .faces .count)) E (_>>_ (link first 2 (s .faces .count - 1)) (_>>_ (link (s .faces .count - 1) 1 first) clearEdges) s)
+        unfolding link clearEdges _>>=_ _>>_ look put
         meets-close s l h =
             let x = h .stage in
             let v = x .within in
@@ -361,9 +369,9 @@ module _ (J : State → Type 0) where
               record {
                 sound = record { some = omega arith; adjIn = closed s l h; ptsIn = h .ptsIn; queueIn = h .queueIn; queueFew = h .queueFew };
                 within = record { fewVerts = v .fewVerts; fewLive = v .fewLive; fewMade = v .fewMade; fewEdges = v .fewEdges; fewQueued = v .fewQueued };
-                completed = omega (arith, x .completed);
+                completed = x .completed;
                 noEdges = refl;
-                kept = K .onComplete _ (K .onLink _ (s .faces .count - 1) 1 first (omega arith) (omega arith) (K .onLink s first 2 (s .faces .count - 1) l (omega arith) (x .kept)));
+                kept = K .onClear _ (K .onLink _ (s .faces .count - 1) 1 first (omega arith) (omega arith) (K .onLink s first 2 (s .faces .count - 1) l (omega arith) (x .kept)));
               },
               omega arith,
             )
@@ -391,7 +399,7 @@ module _ (J : State → Type 0) where
       newer : (n first : ℕ) → first ≤ n → (n ≡ first → ⊥) → first < n
       newer n first l e = omega arith
 
-      pub meets-expand : (s : State) → Turned f k (u .point) (u .face) s → Meets (λ _ t. Ready f (suc k) t × (s .faces .count ≤ t .faces .count)) E (expand w r u s)
+      pub meets-expand : (s : State) → Turned f k (u .point) (u .face) s → Meets (λ _ t. Grown f k t × (s .faces .count ≤ t .faces .count)) E (expand w r u s)
       unfolding expand regrow closeRing
       meets-expand s h =
           meets-then E (λ _ t. Deleted f k (u .point) (u .face) (s .faces .count) t) _ _ _ s (meets-delete (u .face) s h) λ _ s1 h1.
@@ -404,5 +412,5 @@ module _ (J : State → Type 0) where
           meets-look E _ _ s4
           (meets-then E (λ _ t. (s4 ≡ t) × (s2 .faces .count < s4 .faces .count)) _ _ _ s4
           (meets-stopIf E _ _ _ s4 (λ _. end-stage _ s4 (h4 .stage) tt) (λ e. (refl, newer (s4 .faces .count) (s2 .faces .count) (h4 .firstIn) (eqb-false _ _ e)))) λ _ s5 h5.
-          subst (λ (x : State). Meets (λ _ t. Ready f (suc k) t × (s .faces .count ≤ t .faces .count)) E (_>>_ (link (s2 .faces .count) 2 (s4 .faces .count - 1)) (_>>_ (link (s4 .faces .count - 1) 1 (s2 .faces .count)) complete) x)) (h5 .0)
+          subst (λ (x : State). Meets (λ _ t. Grown f k t × (s .faces .count ≤ t .faces .count)) E (_>>_ (link (s2 .faces .count) 2 (s4 .faces .count - 1)) (_>>_ (link (s4 .faces .count - 1) 1 (s2 .faces .count)) clearEdges) x)) (h5 .0)
           (meets-map E (λ _ t c. (c .0, omega (arith, h2 .same, c .1))) (meets-close (s2 .faces .count) (s2 .edged .count) s4 (h5 .1) h4))))

@@ -11,7 +11,7 @@ use Rattle.shape.specs.declared.vertex.Vertex.{Vertex}
 use Rattle.simplex.specs.declared.simplex.VoronoiSimplex.{VoronoiSimplex}
 use Rattle.heap.specs.Heap.{Heap, Entry, heap, entryAt, put as putEntry, swap, less, riseIn, rise, placed, greater, sinkIn, sink, pushed, cleared, settled, popped}
 use Rattle.polytope.specs.Walk.{Mesh, Walked, walked, edges, facing, notedIf, noted, walkOf, passOf}
-use Rattle.polytope.specs.Polytope.{World, State, Rooms, Made, End, Question, Done, ended, withVerts, withFaces, withQueue, vecCells, putVertex, putMade, oneMore, threeN, exchanged, vertexAt, look, put, _>>=_, delete, meshOf, linkedTo, blank, complete, fresh, roomsOf, runEpa}
+use Rattle.polytope.specs.Polytope.{World, State, Rooms, Made, End, Question, Done, ended, withVerts, withFaces, withQueue, vecCells, putVertex, putMade, oneMore, threeN, exchanged, vertexAt, look, put, _>>=_, delete, meshOf, linkedTo, blank, clearEdges, complete, fresh, roomsOf, runEpa}
 use Rattle.polytope.proofs.Walks.{walk-law, Any}
 use Rattle.polytope.proofs.Moves.{Keeps, left, withPass}
 use Rattle.polytope.proofs.Start.{run-keeps}
@@ -180,7 +180,11 @@ module _ (s0 : State) where
 
   same-complete : (s : State) → SameLength s0 s → SameLength s0 (left (complete s))
   unfolding complete _>>=_ look put
-  same-complete s h = record { ofVertices = h .ofVertices; ofPts = h .ofPts; ofAdj = h .ofAdj; ofNums = h .ofNums; ofDead = h .ofDead; ofEdgeFaces = length-blank _ (s .edged .faces) ∙ h .ofEdgeFaces; ofEdgeCorners = length-blank _ (s .edged .corners) ∙ h .ofEdgeCorners; ofHeapFaces = h .ofHeapFaces; ofHeapKeys = h .ofHeapKeys }
+  same-complete s h = record { ofVertices = h .ofVertices; ofPts = h .ofPts; ofAdj = h .ofAdj; ofNums = h .ofNums; ofDead = h .ofDead; ofEdgeFaces = h .ofEdgeFaces; ofEdgeCorners = h .ofEdgeCorners; ofHeapFaces = h .ofHeapFaces; ofHeapKeys = h .ofHeapKeys }
+
+  same-clear : (s : State) → SameLength s0 s → SameLength s0 (left (clearEdges s))
+  unfolding clearEdges _>>=_ look put
+  same-clear s h = record { ofVertices = h .ofVertices; ofPts = h .ofPts; ofAdj = h .ofAdj; ofNums = h .ofNums; ofDead = h .ofDead; ofEdgeFaces = length-blank _ (s .edged .faces) ∙ h .ofEdgeFaces; ofEdgeCorners = length-blank _ (s .edged .corners) ∙ h .ofEdgeCorners; ofHeapFaces = h .ofHeapFaces; ofHeapKeys = h .ofHeapKeys }
 
   same-moves : (r : Rooms) → Keeps r (SameLength s0)
   same-moves r = record {
@@ -192,6 +196,7 @@ module _ (s0 : State) where
     onDelete = λ s i _ h. same-delete s i h;
     onPass = λ w s p i _ _ _ h. same-walked r w s p i h;
     onLink = λ s i c j _ _ h. same-adj s i c j h;
+    onClear = λ s h. same-clear s h;
     onComplete = λ s h. same-complete s h;
   }
 

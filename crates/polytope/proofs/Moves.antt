@@ -6,7 +6,7 @@ use Rattle.shape.specs.declared.vertex.Vertex.{Vertex}
 use Rattle.polytope.specs.declared.types.Made.{Made}
 use Rattle.heap.specs.Heap.{Entry, pushed, popped}
 use Rattle.polytope.specs.Walk.{walked, edges, facing, passOf}
-use Rattle.polytope.specs.Polytope.{World, State, Rooms, Out, onward, ended, withVerts, withFaces, withQueue, putVertex, exchanged, oneMore, threeN, Done, delete, meshOf, afterPass, linkedTo, complete}
+use Rattle.polytope.specs.Polytope.{World, State, Rooms, Out, onward, ended, withVerts, withFaces, withQueue, putVertex, exchanged, oneMore, threeN, Done, delete, meshOf, afterPass, linkedTo, clearEdges, complete}
 use Rattle.polytope.specs.Bounds.{AllIn}
 use Rattle.polytope.proofs.Walks.{recordedOf}
 
@@ -33,7 +33,7 @@ withPass w r s p i =
     afterPass s t (recordedOf (r .edges) (t .edged .answer))
 
 -- J is kept at every move of a run in the rooms r: a push, where there is room; the exchange, where there are vertices to exchange; a pop, of n + 1 entries; a
--- deletion, a link and a pass, of faces that were made; and the end of an expansion
+-- deletion, a link and a pass, of faces that were made; the clearing of the edges; and the end of an expansion
 pub record Keeps (r : Rooms) (J : State → Type 0) : Type 0 where
   pub onVertex : (s : State) (v : Vertex) → s .verts .count < r .vertices → J s → J (withVertex s v)
   pub onExchange : (s : State) → 3 ≤ s .verts .count → J s → J (withExchange s)
@@ -44,4 +44,5 @@ pub record Keeps (r : Rooms) (J : State → Type 0) : Type 0 where
   pub onPass : (w : World) (s : State) (p i : ℕ) → AllIn (s .faces .count) (s .faces .count * 3) (s .faces .adj) → i < s .faces .count → s .edged .count ≡ 0 → J s
       → J (withPass w r s p i)
   pub onLink : (s : State) (i c j : ℕ) → i < s .faces .count → c < 3 → J s → J (linkedTo s i c j)
+  pub onClear : (s : State) → J s → J (left (clearEdges s))
   pub onComplete : (s : State) → J s → J (left (complete s))

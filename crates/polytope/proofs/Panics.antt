@@ -9,7 +9,7 @@ use lib.Ieee.{Float}
 use Rattle.shape.specs.declared.vertex.Vertex.{Vertex}
 use Rattle.heap.specs.Heap.{Entry}
 use Rattle.polytope.specs.Walk.{Walked, walked, edges, facing, passOf}
-use Rattle.polytope.specs.Polytope.{World, State, Rooms, Made, Turn, Best, VoronoiSimplex, Found, Lost, WalkAnswer, Done, NoRoom, Site, End, answers, nothing, panics, noRoom, Act, ended, Nil, _>>=_, _>>_, look, put, pure, ok, stopIf, doIf, branch, liveTo, live, vertexAt, pointAt, firstFar, meshOf, pushVertex, pushFace, queueFace, queueStart, fourFaces, queueFour, startFour, third, twoFaces, startTwo, second, bootstrap, pushPoints, startVertices, startFaces, answerOf, answer, popEntry, popLive, delete, passed, silhouette, link, queueNew, growAt, grow, growAll, complete, closeRing, regrow, expand, advance, turn, turnIf, turns, expansions, epa, fresh, roomsOf, runEpa}
+use Rattle.polytope.specs.Polytope.{World, State, Rooms, Made, Turn, Best, VoronoiSimplex, Found, Lost, WalkAnswer, Done, NoRoom, Site, End, answers, nothing, panics, noRoom, Act, ended, Nil, _>>=_, _>>_, look, put, pure, ok, stopIf, doIf, branch, liveTo, live, vertexAt, pointAt, firstFar, meshOf, pushVertex, pushFace, queueFace, queueStart, fourFaces, queueFour, startFour, third, twoFaces, startTwo, second, bootstrap, pushPoints, startVertices, startFaces, answerOf, answer, popEntry, popLive, delete, passed, silhouette, link, queueNew, growAt, grow, growAll, clearEdges, closeRing, regrow, expand, advance, turn, turnIf, complete, nextTurn, turns, expansions, epa, fresh, roomsOf, runEpa}
 use Rattle.polytope.proofs.Steps.{Meets, goes, ends, meets-bind, meets-then, meets-look, meets-put, meets-pure, meets-ok, meets-stop, meets-stopIf, meets-doIf, meets-branch, meets-link, meets-face, meets-queue, meets-vertex}
 
 -- no face, no edge, no entry of the heap, no expansion
@@ -212,7 +212,7 @@ module _ (w : World) (r : Rooms) where
   calm-growAll u (suc n) i = calm-then _ _ (calm-grow u i) (calm-growAll u n (i + 1))
 
   calm-closeRing : (first : ℕ) → Calm (closeRing first)
-  unfolding closeRing complete
+  unfolding closeRing clearEdges
   calm-closeRing first =
       calm-look _ λ s.
       calm-then _ _ (calm-stopIf _ _)
@@ -243,10 +243,18 @@ module _ (w : World) (r : Rooms) where
   calm-turnIf tol b none = calm-answer w _ _
   calm-turnIf tol b (some e) = calm-turn tol b e
 
+  calm-nextTurn : (tol : Float) (b : Best) → Calm (nextTurn w r tol b)
+  unfolding nextTurn complete
+  calm-nextTurn tol b =
+      calm-look _ λ s.
+      calm-bind _ _ (calm-popLive _) λ o.
+      calm-bind _ _ (calm-turnIf tol b o) λ b1.
+      calm-then _ _ (calm-look _ λ t. calm-put _) (calm-pure b1)
+
   calm-turns : (tol : Float) (n : ℕ) (b : Best) → Calm (turns w r tol n b)
   unfolding turns
   calm-turns tol zero b = calm-answer w _ _
-  calm-turns tol (suc n) b = calm-look _ λ s. calm-bind _ _ (calm-popLive _) λ o. calm-bind _ _ (calm-turnIf tol b o) λ b1. calm-turns tol n b1
+  calm-turns tol (suc n) b = calm-bind _ _ (calm-nextTurn tol b) λ b1. calm-turns tol n b1
 
   calm-expansions : (tol : Float) → Calm (expansions w r tol)
   unfolding expansions

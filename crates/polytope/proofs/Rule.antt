@@ -13,7 +13,7 @@ use lib.Ieee.{Float}
 use Rattle.shape.specs.declared.vertex.Vertex.{Vertex}
 use Rattle.heap.specs.Heap.{Heap, Entry, noEntry, pushed, popped}
 use Rattle.polytope.specs.Walk.{Walked, walked, edges, facing, passOf}
-use Rattle.polytope.specs.Polytope.{World, State, Rooms, VoronoiSimplex, Faces, Made, Best, End, Done, ended, withFaces, vecCells, putVertex, putMade, oneMore, threeN, exchanged, vertexAt, look, put, _>>=_, delete, meshOf, complete, fresh, roomsOf, runEpa}
+use Rattle.polytope.specs.Polytope.{World, State, Rooms, VoronoiSimplex, Faces, Made, Best, End, Done, ended, withFaces, vecCells, putVertex, putMade, oneMore, threeN, exchanged, vertexAt, look, put, _>>=_, delete, meshOf, clearEdges, complete, fresh, roomsOf, runEpa}
 use Rattle.polytope.specs.Bounds.{AllIn, Sound, Between}
 use Rattle.polytope.specs.Rule.{Untouched, Returned, FacesRuled, HeapRuled, Ruled, InRoom}
 use Rattle.polytope.proofs.Places.{stays, after, one-set, some-sets, if-so, reads-set, used, given-back, blanked}
@@ -126,9 +126,9 @@ module _ (s0 : State) where
     heap = h .heap;
   }
 
-  rule-complete : (s : State) → Ruled s0 s → Ruled s0 (left (complete s))
-  unfolding complete _>>=_ look put
-  rule-complete s h =
+  rule-clear : (s : State) → Ruled s0 s → Ruled s0 (left (clearEdges s))
+  unfolding clearEdges _>>=_ look put
+  rule-clear s h =
       let e = h .edges in
       record {
         vertices = h .vertices;
@@ -140,6 +140,10 @@ module _ (s0 : State) where
         };
         heap = h .heap;
       }
+
+  rule-complete : (s : State) → Ruled s0 s → Ruled s0 (left (complete s))
+  unfolding complete _>>=_ look put
+  rule-complete s h = record { vertices = h .vertices; faces = h .faces; edges = h .edges; heap = h .heap }
 
   rule-face : (s : State) (a b c x y z : ℕ) (m : Made) → Ruled s0 s → Ruled s0 (withFaces s (oneMore (s .faces) (threeN a b c) (threeN x y z) m))
   unfolding oneMore
@@ -170,6 +174,7 @@ module _ (s0 : State) where
       edges = h .edges;
       heap = h .heap;
     };
+    onClear = λ s h. rule-clear s h;
     onComplete = λ s h. rule-complete s h;
   }
 
@@ -202,9 +207,13 @@ room-delete : (r : Rooms) (s : State) (i : ℕ) → InRoom r s → InRoom r (lef
 unfolding delete _>>=_ look put
 room-delete r s i h = record { vertices = h .vertices; faces = h .faces; edges = h .edges; most = h .most; heap = h .heap }
 
+room-clear : (r : Rooms) (s : State) → InRoom r s → InRoom r (left (clearEdges s))
+unfolding clearEdges _>>=_ look put
+room-clear r s h = record { vertices = h .vertices; faces = h .faces; edges = omega arith; most = h .most; heap = h .heap }
+
 room-complete : (r : Rooms) (s : State) → InRoom r s → InRoom r (left (complete s))
 unfolding complete _>>=_ look put
-room-complete r s h = record { vertices = h .vertices; faces = h .faces; edges = omega arith; most = h .most; heap = h .heap }
+room-complete r s h = record { vertices = h .vertices; faces = h .faces; edges = h .edges; most = h .most; heap = h .heap }
 
 room-moves : (r : Rooms) → Keeps r (InRoom r)
 room-moves r = record {
@@ -216,6 +225,7 @@ room-moves r = record {
   onDelete = λ s i l h. room-delete r s i h;
   onPass = λ w s p i a l z h. let t = pass-reached w r s p i a l in record { vertices = h .vertices; faces = h .faces; edges = t .fits; most = omega (arith, h .most, t .fits); heap = h .heap };
   onLink = λ s i c j l k h. record { vertices = h .vertices; faces = h .faces; edges = h .edges; most = h .most; heap = h .heap };
+  onClear = λ s h. room-clear r s h;
   onComplete = λ s h. room-complete r s h;
 }
 

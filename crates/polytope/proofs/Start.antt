@@ -17,7 +17,7 @@ use Rattle.polytope.proofs.Sizes.{bound-zero, bound-most}
 use Rattle.polytope.proofs.Heaps.{good-pushed}
 use Rattle.polytope.proofs.Growth.{Ready, Ending}
 use Rattle.polytope.proofs.Moves.{Keeps, withVertex, withExchange}
-use Rattle.polytope.proofs.Turns.{IsLive, Best-ready, meets-popLive, meets-turnIf, meets-turns}
+use Rattle.polytope.proofs.Turns.{Best-ready, meets-nextTurn, meets-turns}
 use Rattle.heap.specs.Heap as Heap
 use Rattle.number.specs.Constants.{largest}
 use Rattle.vector.specs.Vector.{zeroF}
@@ -339,10 +339,8 @@ module _ (J : State → Type 0) (r : Rooms) (K : Keeps r J) where
     between-ready s h j _ _ _ (started tol b t u e1 e2 l) =
         let a : Early F (x .dim) t = (rw e1 at (meets-vertices s h j)) .held in
         record { ready = (rw e2 at (meets-faces tol t a)) .held; bestIn = l }
-    between-ready s h j _ _ _ (expanded tol k b b1 o t u v q l e1 e2) =
-        let a = between-ready s h j k b t q in
-        let c : Ready J F k u × IsLive o u × (u .faces .count ≡ t .faces .count) = (rw e1 at (meets-popLive J r K F w k (t .queue .count) t refl (a .ready))) .held in
-        (rw e2 at (meets-turnIf J r K F w k tol b o u l (record { ready = c .0; bestIn = rw (c .2) (a .bestIn) }) (c .1))) .held
+    between-ready s h j _ _ _ (expanded tol k b b1 t u q l e) =
+        (rw e at (meets-nextTurn J r K F w k tol b t l (between-ready s h j k b t q))) .held
 
   -- every run ends, within the sizes, and leaves what every move keeps
   pub run-ends : (w : World) (x : VoronoiSimplex) (s : State) → Empty s → J s → Meets (λ _ t. ⊥) (Ending J (facesAtStart x) r) (epa w r x s)
@@ -378,6 +376,7 @@ nothing-kept r = record {
   onDelete = λ _ _ _ _. tt;
   onPass = λ _ _ _ _ _ _ _ _. tt;
   onLink = λ _ _ _ _ _ _ _. tt;
+  onClear = λ _ _. tt;
   onComplete = λ _ _. tt;
 }
 

@@ -10,17 +10,17 @@ use Rattle.vector.specs.Vector.{dotV}
 use Rattle.shape.specs.declared.vertex.Vertex.{Vertex}
 use borrow.Author.Tests.{eqb-true}
 use Rattle.heap.specs.Heap.{Entry, popped}
-use Rattle.polytope.specs.Polytope.{World, State, Rooms, End, Found, _>>=_, _>>_, pure, look, put, withQueue, live, normalAt, answerOf, answer, popEntry, popLive, converged, stuck, heapEmpty, enoughTurns, Best, bettered, turn, advance, turnIf, turns}
+use Rattle.polytope.specs.Polytope.{World, State, Rooms, End, Found, _>>=_, _>>_, pure, look, put, withQueue, live, normalAt, answerOf, answer, popEntry, popLive, converged, stuck, heapEmpty, enoughTurns, Best, bettered, complete, turn, advance, turnIf, nextTurn, turns}
 use Rattle.polytope.specs.Bounds.{Good, bound, Within, Tight, with-all, FromPoint}
 use Rattle.polytope.proofs.Basics.{all-as}
 use Rattle.polytope.proofs.Sizes.{bound-suc}
 use Rattle.polytope.proofs.Heaps.{good-popped}
-use Rattle.polytope.proofs.Growth.{Ready, Turned, Ending, end-answer, meets-expand}
+use Rattle.polytope.proofs.Growth.{Ready, Grown, Turned, Ending, end-answer, meets-expand}
 use Rattle.polytope.proofs.Moves.{Keeps, withVertex}
 use Rattle.polytope.proofs.Steps.{Meets, goes, meets-bind, meets-then, meets-look, meets-pure, meets-stop, meets-doIf, meets-branch, meets-vertex, meets-map}
 
 -- an entry that was popped is of a live face
-abbrev pub IsLive : Option Entry → State → Type 0
+abbrev IsLive : Option Entry → State → Type 0
 IsLive none s = Unit {0}
 IsLive (some e) s = (e .face < s .faces .count) × (getD (s .faces .dead) (e .face) 1 ≡ 0)
 
@@ -53,7 +53,7 @@ module _ (J : State → Type 0) (r : Rooms) (K : Keeps r J) (f : ℕ) (w : World
   unfolding popEntry _>>=_ _>>_ look put pure
   meets-popEntry k n s e h = let p = popped-ready k n s e h in goes ((p .0, p .1, h .sound .queueIn .each .below 0 (omega arith)), refl)
 
-  pub meets-popLive : (k n : ℕ) (s : State) → s .queue .count ≡ n → Ready J f k s → Meets (λ o t. Ready J f k t × IsLive o t × (t .faces .count ≡ s .faces .count)) E (popLive n s)
+  meets-popLive : (k n : ℕ) (s : State) → s .queue .count ≡ n → Ready J f k s → Meets (λ o t. Ready J f k t × IsLive o t × (t .faces .count ≡ s .faces .count)) E (popLive n s)
   unfolding popLive
   meets-popLive k zero s e h = meets-pure E _ none s (h, tt, refl)
   meets-popLive k (suc n) s e h =
@@ -101,8 +101,13 @@ module _ (J : State → Type 0) (r : Rooms) (K : Keeps r J) (f : ℕ) (w : World
     pub ready : Ready J f k s
     pub bestIn : b .face < s .faces .count
 
-  pub meets-turn : (k : ℕ) (tol : Float) (b : Best) (e : Entry) (s : State) → k ≤ 100 → Best-ready k b s → IsLive (some e) s
-      → Meets (λ b1 t. Best-ready (suc k) b1 t) E (turn w r tol b e s)
+  -- the same, before the expansion is counted
+  record Best-grown (k : ℕ) (b : Best) (s : State) : Type 0 where
+    grown : Grown J f k s
+    bestIn : b .face < s .faces .count
+
+  meets-turn : (k : ℕ) (tol : Float) (b : Best) (e : Entry) (s : State) → k ≤ 100 → Best-ready k b s → IsLive (some e) s
+      → Meets (λ b1 t. Best-grown k b1 t) E (turn w r tol b e s)
   unfolding turn advance
   meets-turn k tol b e s l hb a =
       let h = hb .ready in
@@ -118,9 +123,9 @@ module _ (J : State → Type 0) (r : Rooms) (K : Keeps r J) (f : ℕ) (w : World
       (meets-doIf E _ _ _ t (λ _. end-answer J r K f w k (record { face = e .face; dist = lib.Ieee.nan; point = s .verts .count; tol = tol }) _ converged tt _ t (u .0 .stage)) (λ _. u)) λ _ t1 u1.
       meets-then E (λ _ t. Turned J f k (s .verts .count) (e .face) t × (t .faces .count ≡ n)) _ _ _ t1
       (meets-doIf E _ _ _ t1 (λ _. end-answer J r K f w k (record { face = e .face; dist = lib.Ieee.nan; point = s .verts .count; tol = tol }) _ stuck tt _ t1 (u1 .0 .stage)) (λ _. u1)) λ _ t2 u2.
-      meets-then E (λ _ t. Ready J f (suc k) t × (t2 .faces .count ≤ t .faces .count)) _ _ _ t2
+      meets-then E (λ _ t. Grown J f k t × (t2 .faces .count ≤ t .faces .count)) _ _ _ t2
       (meets-expand J r K f w k _ t2 (u2 .0)) λ _ t3 u3.
-      meets-pure E _ _ t3 (record { ready = u3 .0; bestIn = better-in b (e .face) (t3 .faces .count) c (omega (arith, hb .bestIn, u2 .1, u3 .1)) (omega (arith, a .0, u2 .1, u3 .1)) }))
+      meets-pure E _ _ t3 (record { grown = u3 .0; bestIn = better-in b (e .face) (t3 .faces .count) c (omega (arith, hb .bestIn, u2 .1, u3 .1)) (omega (arith, a .0, u2 .1, u3 .1)) }))
 
   -- ---- all turns
 
@@ -131,16 +136,41 @@ module _ (J : State → Type 0) (r : Rooms) (K : Keeps r J) (f : ℕ) (w : World
   unfolding answer answerOf
   answer-ready Q k why y i s l h = meets-look E Q _ s (meets-stop E Q _ s (end-ready k _ s l h y))
 
-  pub meets-turnIf : (k : ℕ) (tol : Float) (b : Best) (o : Option Entry) (s : State) → k ≤ 100 → Best-ready k b s → IsLive o s → Meets (λ b1 t. Best-ready (suc k) b1 t) E (turnIf w r tol b o s)
+  meets-turnIf : (k : ℕ) (tol : Float) (b : Best) (o : Option Entry) (s : State) → k ≤ 100 → Best-ready k b s → IsLive o s → Meets (λ b1 t. Best-grown k b1 t) E (turnIf w r tol b o s)
   meets-turnIf k tol b none s l h a = answer-ready _ k heapEmpty tt _ s (omega arith) (h .ready)
   meets-turnIf k tol b (some e) s l h a = meets-turn k tol b e s l h a
+
+  -- the expansion is counted
+  meets-complete : (k : ℕ) (b : Best) (s : State) → Best-grown k b s → Meets (λ _ t. Best-ready (suc k) b t) E (complete s)
+  unfolding complete _>>=_ look put
+  meets-complete k b s h =
+      let g = h .grown in
+      let x = g .sound in
+      let v = g .within in
+      goes (record {
+        ready = record {
+          sound = record { some = x .some; adjIn = x .adjIn; ptsIn = x .ptsIn; queueIn = x .queueIn; queueFew = x .queueFew };
+          within = record { fewVerts = v .fewVerts; fewLive = v .fewLive; fewMade = v .fewMade; fewEdges = v .fewEdges; fewQueued = v .fewQueued };
+          completed = omega (arith, g .completed);
+          noEdges = g .noEdges;
+          kept = K .onComplete s (g .kept);
+        };
+        bestIn = h .bestIn;
+      })
+
+  pub meets-nextTurn : (k : ℕ) (tol : Float) (b : Best) (s : State) → k ≤ 100 → Best-ready k b s → Meets (λ b1 t. Best-ready (suc k) b1 t) E (nextTurn w r tol b s)
+  unfolding nextTurn
+  meets-nextTurn k tol b s l h =
+      meets-look E _ _ s
+      (meets-bind E (λ o t. Ready J f k t × IsLive o t × (t .faces .count ≡ s .faces .count)) _ _ _ s (meets-popLive k (s .queue .count) s refl (h .ready)) λ o t p.
+      meets-bind E (λ b1 t. Best-grown k b1 t) _ _ _ t (meets-turnIf k tol b o t l (record { ready = p .0; bestIn = rw (p .2) (h .bestIn) }) (p .1)) λ b1 t1 h1.
+      meets-then E (λ _ t. Best-ready (suc k) b1 t) _ _ _ t1 (meets-complete k b1 t1 h1) λ _ t2 h2.
+      meets-pure E _ _ t2 h2)
 
   -- the turns end the run
   pub meets-turns : (n k : ℕ) (tol : Float) (b : Best) (s : State) → k + n ≡ 101 → Best-ready k b s → Meets (λ _ t. ⊥) E (turns w r tol n b s)
   unfolding turns
   meets-turns zero k tol b s l h = answer-ready _ k enoughTurns tt _ s (omega arith) (h .ready)
   meets-turns (suc n) k tol b s l h =
-      meets-look E _ _ s
-      (meets-bind E (λ o t. Ready J f k t × IsLive o t × (t .faces .count ≡ s .faces .count)) _ _ _ s (meets-popLive k (s .queue .count) s refl (h .ready)) λ o t p.
-      meets-bind E (λ b1 t. Best-ready (suc k) b1 t) _ _ _ t (meets-turnIf k tol b o t (omega arith) (record { ready = p .0; bestIn = rw (p .2) (h .bestIn) }) (p .1)) λ b1 t1 h1.
-      meets-turns n (suc k) tol b1 t1 (omega arith) h1)
+      meets-bind E (λ b1 t. Best-ready (suc k) b1 t) _ _ _ s (meets-nextTurn k tol b s (omega arith) h) λ b1 t h1.
+      meets-turns n (suc k) tol b1 t (omega arith) h1

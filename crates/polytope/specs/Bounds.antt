@@ -8,7 +8,7 @@ use lib.ListN.{getD}
 use lib.Dec.{eqb}
 use lib.Ieee.{Float}
 use Rattle.heap.specs.Heap.{Heap, Entry}
-use Rattle.polytope.specs.Polytope.{World, State, Rooms, Best, startVertices, startFaces, popLive, turnIf, VoronoiSimplex, End, answers, nothing, panics, noRoom, Found, singlePoint, converged, stuck, newFaceNearer, enoughTurns, heapEmpty, Store, theVerts, theFaces, theEdges, theHeap, Out, onward, ended, Nil, live}
+use Rattle.polytope.specs.Polytope.{World, State, Rooms, Best, startVertices, startFaces, nextTurn, VoronoiSimplex, End, answers, nothing, panics, noRoom, Found, singlePoint, converged, stuck, newFaceNearer, enoughTurns, heapEmpty, Store, theVerts, theFaces, theEdges, theHeap, Out, onward, ended, Nil, live}
 
 -- ---- the stores
 
@@ -33,8 +33,7 @@ pub record Sound (s : State) : Type 0 where
 pub data Between (w : World) (r : Rooms) (x : VoronoiSimplex) (s : State) : ℕ → Best → State → Type 0 where
   started : (tol : Float) (b : Best) (t u : State) → startVertices w r x s ≡ onward tt t → startFaces w r (x .dim) tol t ≡ onward tt u → b .face < u .faces .count
       → Between w r x s 0 b u
-  expanded : (tol : Float) (k : ℕ) (b b1 : Best) (o : Option Entry) (t u v : State) → Between w r x s k b t → k ≤ 100 → popLive (t .queue .count) t ≡ onward o u
-      → turnIf w r tol b o u ≡ onward b1 v → Between w r x s (suc k) b1 v
+  expanded : (tol : Float) (k : ℕ) (b b1 : Best) (t u : State) → Between w r x s k b t → k ≤ 100 → nextTurn w r tol b t ≡ onward b1 u → Between w r x s (suc k) b1 u
 
 -- ---- the sizes
 

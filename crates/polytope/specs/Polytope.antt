@@ -544,9 +544,9 @@ unfoldable pub blank : ℕ → List ℕ → List ℕ
 blank zero l = l
 blank (suc n) l = set (blank n l) n 0
 
--- the edges are cleared, and an expansion is complete
-unfoldable pub complete : Act Nil
-complete = do
+-- `self.silhouette.clear()`
+unfoldable pub clearEdges : Act Nil
+clearEdges = do
   s ← look
   let e = s .edged
   put (record {
@@ -554,11 +554,11 @@ complete = do
     faces = s .faces;
     edged = record { faces = blank (e .count) (e .faces); corners = blank (e .count) (e .corners); count = 0 };
     queue = s .queue;
-    done = s .done + 1;
+    done = s .done;
     most = s .most;
   })
 
--- the ring of new faces, from the face `first` on, is closed, and the expansion is complete
+-- the ring of new faces, from the face `first` on, is closed, and the edges are cleared
 unfoldable pub closeRing : ℕ → Act Nil
 closeRing first = do
   s ← look
@@ -566,7 +566,7 @@ closeRing first = do
   stopIf (eqb made first) (nothing allDeleted)
   link first 2 (made - 1)
   link (made - 1) 1 first
-  complete
+  clearEdges
 
 -- new faces join the new vertex to the silhouette
 unfoldable pub regrow : World → Rooms → Turn → Act Nil
@@ -619,14 +619,25 @@ abbrev pub turnIf : World → Rooms → Float → Best → Option Entry → Act 
 turnIf w r tol b none = answer w heapEmpty (b .face)
 turnIf w r tol b (some e) = turn w r tol b e
 
--- at most n expansions more
-unfoldable pub turns : World → Rooms → Float → ℕ → Best → Act Nil
-turns w r tol zero b = answer w enoughTurns (b .face)
-turns w r tol (suc n) b = do
+-- an expansion is complete: `niter += 1`
+unfoldable pub complete : Act Nil
+complete = do
+  s ← look
+  put (record { verts = s .verts; faces = s .faces; edged = s .edged; queue = s .queue; done = s .done + 1; most = s .most })
+
+-- one turn of the loop: the next live face is popped and expanded
+unfoldable pub nextTurn : World → Rooms → Float → Best → Act Best
+nextTurn w r tol b = do
   s ← look
   e ← popLive (s .queue .count)
   b1 ← turnIf w r tol b e
-  turns w r tol n b1
+  complete
+  pure b1
+
+-- at most n expansions more
+unfoldable pub turns : World → Rooms → Float → ℕ → Best → Act Nil
+turns w r tol zero b = answer w enoughTurns (b .face)
+turns w r tol (suc n) b = nextTurn w r tol b >>= turns w r tol n
 
 -- the expansions, at most 101, from the face that the heap has first
 unfoldable pub expansions : World → Rooms → Float → Act Nil
