@@ -17,7 +17,7 @@ use Rattle.polytope.specs.declared.types.End.{End}
 use Rattle.polytope.specs.declared.types.End.the-variants.{Panics}
 use Rattle.polytope.specs.declared.types.Step.{Step}
 use Rattle.polytope.specs.declared.types.Step.the-variants.{Onward, Ended}
-use Rattle.polytope.specs.Polytope.{World, State, Out, onward, ended, Act, Nil, stateOf, stepOut, distTol, startVertices, startFaces, expansions, epa, noneYet, roomsOf, closestPoints, runEpa, fresh, stopIf, next, look, _>>=_, _>>_}
+use Rattle.polytope.specs.Polytope.{World, State, Out, onward, ended, Act, Nil, stateOf, stepOut, distTol, startVertices, startFaces, expansions, epa, noneYet, roomsBy, roomsOf, closestPoints, runEpa, fresh, stopIf, next, look, _>>=_, _>>_}
 use Rattle.polytope.proofs.Steps.{Meets, meets-then, meets-stopIf}
 use Rattle.pushes.specs.Contracts.{worldBy, heapRoom}
 use Rattle.start.specs.Contracts.{StartsVertices}
@@ -123,6 +123,12 @@ final m g1 g2 rooms x v p a n d ef ec hf hk v' p' a' n' d' ef' ec' hf' hk' r y i
     ap (λ (z : Answer). finalBy z v' p' a' n' d' ef' ec' hf' hk') t
     ∙ final-by v' p' a' n' d' ef' ec' hf' hk' r
     ∙ ap finalOf (h ∙ ap (λ (z : Rooms). epa (worldBy m g1 g2) z x (stateOf v p a n d ef ec hf hk noneYet)) is)
+
+-- the rooms, by the lengths of the lists
+pub rooms-are : (v : List Float) (p a : List ℕ) (n : List Float) (d ef ec hf : List ℕ) (hk : List Float) (rooms : Rooms)
+    → rooms ≡ roomsBy (length v) (length p) (length a) (length n) (length d) (length ef) (length ec) (length hf) (length hk) → rooms ≡ roomsOf (stateOf v p a n d ef ec hf hk noneYet)
+unfolding roomsOf
+rooms-are v p a n d ef ec hf hk rooms is = is
 
 pub heap-is : (v : List Float) (p a : List ℕ) (n : List Float) (d ef ec hf : List ℕ) (hk : List Float) (rooms : Rooms) → rooms ≡ roomsOf (stateOf v p a n d ef ec hf hk noneYet) → rooms .heap ≡ min (length hf) (length hk)
 unfolding roomsOf

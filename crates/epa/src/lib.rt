@@ -32,15 +32,15 @@ pub fn closest_points(
     ensures { λ r. ⌜ finalBy r (now (vertices .exit)) (now (pts .exit)) (now (adj .exit)) (now (nums .exit)) (now (dead .exit)) (now («edge_face» .exit)) (now («edge_corner» .exit)) (now («heap_face» .exit)) (now («heap_key» .exit)) ≡ penetration pos12 g1 g2 simplex (now (vertices .entry)) (now (pts .entry)) (now (adj .entry)) (now (nums .entry)) (now (dead .entry)) (now («edge_face» .entry)) (now («edge_corner» .entry)) (now («heap_face» .entry)) (now («heap_key» .entry)) ⌝ }
 {
     let rooms = run::rooms_of(
-        vertices,
-        pts,
-        adj,
-        nums,
-        dead,
-        edge_face,
-        edge_corner,
-        heap_face,
-        heap_key,
+        vertices.len(),
+        pts.len(),
+        adj.len(),
+        nums.len(),
+        dead.len(),
+        edge_face.len(),
+        edge_corner.len(),
+        heap_face.len(),
+        heap_key.len(),
     );
     let step = run::epa(
         vertices,

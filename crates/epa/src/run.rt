@@ -2,7 +2,7 @@
 ghost use mathlib.Core.Path.{_≡_};
 ghost use Prim.Native.Nat.{min};
 ghost use lib.ListN.{length};
-ghost use Rattle.polytope.specs.Polytope.{stateOf, noneYet, roomsOf};
+ghost use Rattle.polytope.specs.Polytope.{noneYet, roomsBy};
 ghost use Rattle.epa.specs.Contracts.{Runs, answerAt, countsBy};
 use crate::turns::expansions;
 use crate::types::Answer;
@@ -26,27 +26,27 @@ fn fewer(a: usize, b: usize) -> usize
     if a < b { a } else { b }
 }
 
-// A store lent as several slices is as long as the fewest whole records that one of them holds.
+// The rooms, by the lengths of the slices: a store lent as several of them is as long as the fewest whole records that one of them holds.
 pub fn rooms_of(
-    vertices: &[f32],
-    pts: &[usize],
-    adj: &[usize],
-    nums: &[f32],
-    dead: &[u8],
-    edge_face: &[usize],
-    edge_corner: &[usize],
-    heap_face: &[usize],
-    heap_key: &[f32],
+    vertices: usize,
+    pts: usize,
+    adj: usize,
+    nums: usize,
+    dead: usize,
+    edge_face: usize,
+    edge_corner: usize,
+    heap_face: usize,
+    heap_key: usize,
 ) -> Rooms
-    ensures { λ r. ⌜ r ≡ roomsOf (stateOf (now (vertices .entry)) (now (pts .entry)) (now (adj .entry)) (now (nums .entry)) (now (dead .entry)) (now («edge_face» .entry)) (now («edge_corner» .entry)) (now («heap_face» .entry)) (now («heap_key» .entry)) noneYet) ⌝ }
+    ensures { λ r. ⌜ r ≡ roomsBy vertices pts adj nums dead «edge_face» «edge_corner» «heap_face» «heap_key» ⌝ }
 {
-    let ids = fewer(pts.len() / 3, adj.len() / 3);
-    let numbers = fewer(nums.len() / 6, dead.len());
+    let ids = fewer(pts / 3, adj / 3);
+    let numbers = fewer(nums / 6, dead);
     Rooms {
-        vertices: vertices.len() / 9,
+        vertices: vertices / 9,
         faces: fewer(ids, numbers),
-        edges: fewer(edge_face.len(), edge_corner.len()),
-        heap: fewer(heap_face.len(), heap_key.len()),
+        edges: fewer(edge_face, edge_corner),
+        heap: fewer(heap_face, heap_key),
     }
 }
 

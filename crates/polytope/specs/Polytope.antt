@@ -97,15 +97,14 @@ stateOf v p a n d ef ec hf hk r =
       most = r .most;
     }
 
--- a store lent as several lists is as long as the fewest whole records that one of them holds
+-- a store lent as several lists is as long as the fewest whole records that one of them holds: the rooms, by the lengths of the lists
+abbrev pub roomsBy : ℕ → ℕ → ℕ → ℕ → ℕ → ℕ → ℕ → ℕ → ℕ → Rooms
+roomsBy v p a n d ef ec hf hk = record { vertices = v / 9; faces = min (min (p / 3) (a / 3)) (min (n / 6) d); edges = min ef ec; heap = min hf hk }
+
 unfoldable pub roomsOf : State → Rooms
 roomsOf s =
-    record {
-      vertices = length (s .verts .cells) / 9;
-      faces = min (min (length (s .faces .pts) / 3) (length (s .faces .adj) / 3)) (min (length (s .faces .nums) / 6) (length (s .faces .dead)));
-      edges = min (length (s .edged .faces)) (length (s .edged .corners));
-      heap = min (length (s .queue .faces)) (length (s .queue .keys));
-    }
+    roomsBy (length (s .verts .cells)) (length (s .faces .pts)) (length (s .faces .adj)) (length (s .faces .nums)) (length (s .faces .dead)) (length (s .edged .faces))
+    (length (s .edged .corners)) (length (s .queue .faces)) (length (s .queue .keys))
 
 abbrev pub withVerts : State → Verts → State
 withVerts s v = record { verts = v; faces = s .faces; edged = s .edged; queue = s .queue; done = s .done; most = s .most }

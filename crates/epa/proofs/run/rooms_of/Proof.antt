@@ -1,10 +1,8 @@
 -- What `rooms_of` returns. Assumes nothing.
-use Rattle.polytope.specs.Polytope.{roomsOf}
 use Rattle.epa.proofs.run.rooms_of.Statement.{statement}
 use Rattle.epa.proofs.run.rooms_of.Tie as tie
 
 returns : tie.Need-returns
-unfolding roomsOf
 returns c = simp (← c .before .before .before .before .fewer .ensures, ← c .before .before .before .fewer2 .ensures, ← c .before .before .fewer3 .ensures, ← c .before .fewer4 .ensures, ← c .fewer5 .ensures)
 
 pub rooms-of-spec : {M : Type 1} → statement M
