@@ -1,4 +1,5 @@
 -- Facts on plain values.
+pub mod Choice
 pub mod Inside
 pub mod Unwraps
 pub mod Locations

@@ -1,6 +1,6 @@
 -- The projections give only locations that there are: corners, edges and faces by numbers that a segment, a triangle or a tetrahedron has (`segment-fits`, `triangle-fits`,
 -- `tetrahedron-fits`), in any format. Shown at each way out, where the numbers are literals. Assumes nothing.
-use mathlib.Core.Bool.{Bool, true, false, cond, _&&_}
+use mathlib.Core.Bool.{_&&_}
 use Prim.Native.Nat.{ℕ, _≤_}
 use native.Mathlib.Omega.{arith}
 use lib.Ieee as Ieee
@@ -38,6 +38,7 @@ use Rattle.projection.specs.declared.tetrahedron.Dots.{Dots as TetDots}
 use Rattle.projection.specs.declared.tetrahedron.EdgeCheck.{EdgeCheck}
 use Rattle.projection.specs.declared.tetrahedron.Sides.{Sides}
 use Rattle.projection.specs.Tetrahedron as Tet
+use Rattle.projection.proofs.Choice.{either}
 
 -- ---- the locations that there are, by their numbers
 
@@ -57,10 +58,6 @@ pub data TetrahedronHas : TetrahedronPointLocation → Type 0 where
   edge : (i : ℕ) (u v : Float) → i ≤ 5 → TetrahedronHas (OfTetrahedron.OnEdge i u v)
   face : (i : ℕ) (u v w : Float) → i ≤ 3 → TetrahedronHas (OfTetrahedron.OnFace i u v w)
   solid : TetrahedronHas OfTetrahedron.OnSolid
-
-either : {A : Type 0} (P : A → Type 0) (b : Bool) (x y : A) → P x → P y → P (cond b x y)
-either P true x y h k = h
-either P false x y h k = k
 
 -- ---- the segment
 

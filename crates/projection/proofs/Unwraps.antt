@@ -1,6 +1,6 @@
 -- `Face::new` of epa3.rs never panics where it unwraps `barycentric_coordinates()` (`never-unwraps-none`): it does that at a corner and on an edge, and the projection on
 -- a triangle answers none but those that a triangle has, in any format. Shown at each way out of the projection: a corner's region, an edge's, and the face. Assumes nothing.
-use mathlib.Core.Bool.{Bool, true, false, cond, _&&_}
+use mathlib.Core.Bool.{cond, _&&_}
 use Prim.Native.Nat.{ℕ}
 use lib.Ieee.{Float, Format, le, ne}
 use Rattle.vector.specs.declared.vec3.Vec3.{Vec3}
@@ -18,6 +18,7 @@ use Rattle.projection.specs.declared.triangle.MaybeProjection.the-varian
 use Rattle.projection.specs.declared.triangle.ProjectionInfo.{ProjectionInfo}
 use Rattle.projection.specs.declared.triangle.ProjectionInfo.the-variants as Info
 use Rattle.projection.specs.Triangle.{onVertex, vertexRegion, orElse, onEdge, onFace, located, differences, dots, checkEdges, projectTriangle, vertexWeights, edgeWeights, barycentricCoordinates}
+use Rattle.projection.proofs.Choice.{either}
 
 -- what `unwrap` has to find
 abbrev pub HasWeights : BarycentricCoordinates → Type 0
@@ -44,11 +45,6 @@ unfolding orElse
 or-else (Some q) p h k = h
 or-else None p h k = k
 
--- a choice has what both its ways have
-either-way : {A : Type 0} (P : A → Type 0) (b : Bool) (x y : A) → P x → P y → P (cond b x y)
-either-way P true x y h k = h
-either-way P false x y h k = k
-
 at-corner : (t : Triangle) (k : Dots) → MaybeAt (vertexRegion t k)
 unfolding vertexRegion onVertex barycentricCoordinates vertexWeights
 at-corner t k =
@@ -57,7 +53,7 @@ at-corner t k =
     let in-c = le zeroF (k .«ac_cp») && le (k .«ab_cp») (k .«ac_cp») in
     let from-c = cond in-c (onVertex 2 (t .c)) None in
     let from-b = cond in-b (onVertex 1 (t .b)) from-c in
-    either-way MaybeAt in-a (onVertex 0 (t .a)) from-b tt (either-way MaybeAt in-b (onVertex 1 (t .b)) from-c tt (either-way MaybeAt in-c (onVertex 2 (t .c)) None tt tt))
+    either MaybeAt in-a (onVertex 0 (t .a)) from-b tt (either MaybeAt in-b (onVertex 1 (t .b)) from-c tt (either MaybeAt in-c (onVertex 2 (t .c)) None tt tt))
 
 on-face : (f : Format) (pt a ab ac : Vec3) (side : ℕ) (va vb vc : Float) → At (onFace f pt a ab ac side va vb vc)
 unfolding onFace barycentricCoordinates
@@ -67,7 +63,7 @@ on-face f pt a ab ac side va vb vc =
     let v = _⊗_ f vb denom in
     let w = _⊗_ f vc denom in
     let on : TriangleProjection = record { point = addV f (addV f a (scaleV f ab v)) (scaleV f ac w); location = OnFace side (_⊖_ f (_⊖_ f oneF v) w) v w } in
-    either-way At (ne sum zeroF) on (record { point = pt; location = OnSolid }) tt tt
+    either At (ne sum zeroF) on (record { point = pt; location = OnSolid }) tt tt
 
 on-side : (f : Format) (t : Triangle) (pt : Vec3) (v : Differences) (k : Dots) (i : ProjectionInfo) → At (located f t pt v k i)
 unfolding located onEdge barycentricCoordinates edgeWeights

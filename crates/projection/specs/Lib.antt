@@ -1,5 +1,7 @@
 -- What the contracts of this crate cite: projections on a segment, a triangle and a tetrahedron.
 pub mod Relative
+pub mod Signs
+pub mod Values
 pub mod Inside
 pub mod Segment
 pub mod Triangle

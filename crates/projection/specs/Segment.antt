@@ -5,7 +5,9 @@ use mathlib.Core.Bool.{cond}
 use lib.Ieee.{Float, Format, le, eq}
 use Rattle.vector.specs.declared.vec3.Vec3.{Vec3}
 use Rattle.vector.specs.Vector.{zeroF, oneF, zeroV, addV, subV, scaleV, dotV, lengthSquaredV, _⊖_, _⊘_}
+use Rattle.projection.specs.Values.{Values}
 use Rattle.projection.specs.declared.segment.Segment.{Segment}
+use Rattle.projection.specs.declared.segment.SegmentPointLocation.{SegmentPointLocation}
 use Rattle.projection.specs.declared.segment.SegmentPointLocation.the-variants.{OnVertex, OnEdge}
 use Rattle.projection.specs.declared.segment.SegmentProjection.{SegmentProjection}
 use Rattle.projection.specs.declared.segment.SegmentProjection.the-variants.{At, Refused}
@@ -25,11 +27,11 @@ projectSegment f s pt =
     (cond (le n t) (At (s .b) (OnVertex 1))
     (cond (eq n zeroF) Refused (onEdge f (s .a) ab (_⊘_ f t n))))
 
--- ---- the outcome's number and values
-unfoldable pub segmentOutcome : SegmentProjection → ℕ
-segmentOutcome (At p l) = 0
-segmentOutcome Refused = 2
+-- ---- document 01's number of a projection, 0 or refusal 2, and its values: point and location, and zeros for the refusal, the corner 0 being the location of zeros
+unfoldable pub segmentNumber : SegmentProjection → ℕ
+segmentNumber (At p l) = 0
+segmentNumber Refused = 2
 
-unfoldable pub segmentPoint : SegmentProjection → Vec3
-segmentPoint (At p l) = p
-segmentPoint Refused = zeroV
+unfoldable pub segmentValues : SegmentProjection → Values SegmentPointLocation
+segmentValues (At p l) = record { point = p; location = l }
+segmentValues Refused = record { point = zeroV; location = OnVertex 0 }

@@ -1,13 +1,16 @@
 -- The projection of a point on a tetrahedron, taken as solid, of any format f: src/query/point/point_tetrahedron.rs, with the tests in its order, the first that holds answers,
 -- one rounding each. Definitions only.
 use Prim.Native.Nat.{ℕ}
-use mathlib.Core.Bool.{Bool, cond, _&&_}
+use mathlib.Core.Bool.{cond, _&&_}
 use lib.Ieee.{Float, Format, lt, le, ne, eq}
 use Rattle.vector.specs.declared.vec3.Vec3.{Vec3}
 use Rattle.vector.specs.declared.vec3.MaybeVec3.{MaybeVec3}
 use Rattle.vector.specs.declared.vec3.MaybeVec3.the-variants as Vector
 use Rattle.vector.specs.Vector.{zeroF, oneF, zeroV, negV, addV, subV, scaleV, dotV, crossV, tryNormalizeV, _⊕_, _⊖_, _⊗_, _⊘_}
+use Rattle.projection.specs.Signs.{atLeastZero, atMostZero}
+use Rattle.projection.specs.Values.{Values}
 use Rattle.projection.specs.declared.tetrahedron.Tetrahedron.{Tetrahedron}
+use Rattle.projection.specs.declared.tetrahedron.TetrahedronPointLocation.{TetrahedronPointLocation}
 use Rattle.projection.specs.declared.tetrahedron.TetrahedronPointLocation.the-variants.{OnVertex, OnEdge, OnFace, OnSolid}
 use Rattle.projection.specs.declared.tetrahedron.TetrahedronProjection.{TetrahedronProjection}
 use Rattle.projection.specs.declared.tetrahedron.TetrahedronProjection.the-variants.{At, Refused}
@@ -19,13 +22,6 @@ use Rattle.projection.specs.declared.tetrahedron.Normals.{Normals}
 use Rattle.projection.specs.declared.tetrahedron.EdgeCheck.{EdgeCheck}
 use Rattle.projection.specs.declared.tetrahedron.Edges.{Edges}
 use Rattle.projection.specs.declared.tetrahedron.Sides.{Sides}
-
--- x >= 0.0, x <= 0.0
-abbrev high : Float → Bool
-high x = le zeroF x
-
-abbrev low : Float → Bool
-low x = le x zeroF
 
 -- `if let Some(res) = res { return res; }`, and what follows
 infixr 50 _orElse_
@@ -39,10 +35,10 @@ onVertex i corner = Some (At corner (OnVertex i))
 
 unfoldable pub vertexRegion : Tetrahedron → Dots → MaybeProjection
 vertexRegion t k =
-    cond (low (k .«ap_ab») && low (k .«ap_ac») && low (k .«ap_ad»)) (onVertex 0 (t .a))
-    (cond (low (k .«bp_bc») && low (k .«bp_bd») && high (k .«bp_ab»)) (onVertex 1 (t .b))
-    (cond (low (k .«cp_cd») && high (k .«cp_bc») && high (k .«cp_ac»)) (onVertex 2 (t .c))
-    (cond (high (k .«dp_ad») && high (k .«dp_bd») && high (k .«dp_cd»)) (onVertex 3 (t .d)) None)))
+    cond (atMostZero (k .«ap_ab») && atMostZero (k .«ap_ac») && atMostZero (k .«ap_ad»)) (onVertex 0 (t .a))
+    (cond (atMostZero (k .«bp_bc») && atMostZero (k .«bp_bd») && atLeastZero (k .«bp_ab»)) (onVertex 1 (t .b))
+    (cond (atMostZero (k .«cp_cd») && atLeastZero (k .«cp_bc») && atLeastZero (k .«cp_ac»)) (onVertex 2 (t .c))
+    (cond (atLeastZero (k .«dp_ad») && atLeastZero (k .«dp_bd») && atLeastZero (k .«dp_cd»)) (onVertex 3 (t .d)) None)))
 
 -- ---- what the six calls of `check_edge` give: the first that finds something, and the numbers, under the Rust's names
 unfoldable pub firstEdge : Edges → MaybeProjection
@@ -123,7 +119,7 @@ module _ (f : Format) where
       let «ap_x_ab» = crossV f ap ab in
       let d1 = dotV f «ap_x_ab» nabc in
       let d2 = dotV f «ap_x_ab» nabd in
-      cond (ne «ab_ab» zeroF && high d1 && high d2 && high «ap_ab» && le «ap_ab» «ab_ab»)
+      cond (ne «ab_ab» zeroF && atLeastZero d1 && atLeastZero d2 && atLeastZero «ap_ab» && le «ap_ab» «ab_ab»)
       (record { dabc = d1; dabd = d2; res = onEdge i a ab (_⊘_ f «ap_ab» «ab_ab») })
       (record { dabc = d1; dabd = d2; res = None })
 
@@ -191,11 +187,11 @@ module _ (f : Format) where
       let e = checkEdges t v k in
       orSolid (vertexRegion t k orElse firstEdge e orElse checkFaces t v (sides e)) pt
 
--- ---- the outcome's number and values
-unfoldable pub tetrahedronOutcome : TetrahedronProjection → ℕ
-tetrahedronOutcome (At p l) = 0
-tetrahedronOutcome Refused = 2
+-- ---- document 01's number of a projection, 0 or refusal 2, and its values: point and location, and zeros for the refusal, the corner 0 being the location of zeros
+unfoldable pub tetrahedronNumber : TetrahedronProjection → ℕ
+tetrahedronNumber (At p l) = 0
+tetrahedronNumber Refused = 2
 
-unfoldable pub tetrahedronPoint : TetrahedronProjection → Vec3
-tetrahedronPoint (At p l) = p
-tetrahedronPoint Refused = zeroV
+unfoldable pub tetrahedronValues : TetrahedronProjection → Values TetrahedronPointLocation
+tetrahedronValues (At p l) = record { point = p; location = l }
+tetrahedronValues Refused = record { point = zeroV; location = OnVertex 0 }

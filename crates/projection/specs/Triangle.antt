@@ -2,15 +2,15 @@
 -- `triangle.rs` `is_affinely_dependent` and `barycentric_coordinates`. Definitions only.
 -- Those texts are not published with the crate's: docs/DECISIONS.md says what stands in for them.
 use Prim.Native.Nat.{ℕ}
-use mathlib.Core.Bool.{Bool, false, cond, _&&_}
-use lib.IntN.{pos}
+use mathlib.Core.Bool.{Bool, true, false, cond, _&&_}
 use lib.Dec.{eqb}
 use lib.Ieee as Ieee
-use lib.Ieee.{Float, Format, fin, lt, le, ne}
+use lib.Ieee.{Float, Format, lt, le, ne}
 use Rattle.vector.specs.declared.vec3.Vec3.{Vec3}
-use Rattle.vector.specs.Vector.{zeroF, oneF, addV, subV, scaleV, dotV, crossV, lengthSquaredV, _⊕_, _⊖_, _⊗_, _⊘_}
-use Rattle.number.specs.Constants.{epsilon}
+use Rattle.vector.specs.Vector.{zeroF, oneF, vec3, zeroV, addV, subV, scaleV, dotV, crossV, lengthSquaredV, _⊕_, _⊖_, _⊗_, _⊘_}
+use Rattle.number.specs.Constants.{epsilon, hundredF}
 use Rattle.projection.specs.Relative.{relativeEq}
+use Rattle.projection.specs.Signs.{atLeastZero, atMostZero}
 use Rattle.projection.specs.declared.triangle.Triangle.{Triangle}
 use Rattle.projection.specs.declared.triangle.TrianglePointLocation.{TrianglePointLocation}
 use Rattle.projection.specs.declared.triangle.TrianglePointLocation.the-variants.{OnVertex, OnEdge, OnFace, OnSolid}
@@ -24,26 +24,15 @@ use Rattle.projection.specs.declared.triangle.MaybeProjection.the-varian
 use Rattle.projection.specs.declared.triangle.ProjectionInfo.{ProjectionInfo}
 use Rattle.projection.specs.declared.triangle.ProjectionInfo.the-variants as Info
 
--- the literal 100.0
-abbrev hundredF : Float
-hundredF = fin false 25 (pos 2)
-
--- x >= 0.0, x <= 0.0
-abbrev high : Float → Bool
-high x = le zeroF x
-
-abbrev low : Float → Bool
-low x = le x zeroF
-
 -- ---- the Voronoi regions of the corners
 unfoldable pub onVertex : ℕ → Vec3 → MaybeProjection
 onVertex i corner = Some (record { point = corner; location = OnVertex i })
 
 unfoldable pub vertexRegion : Triangle → Dots → MaybeProjection
 vertexRegion t k =
-    cond (low (k .«ab_ap») && low (k .«ac_ap»)) (onVertex 0 (t .a))
-    (cond (high (k .«ab_bp») && le (k .«ac_bp») (k .«ab_bp»)) (onVertex 1 (t .b))
-    (cond (high (k .«ac_cp») && le (k .«ab_cp») (k .«ac_cp»)) (onVertex 2 (t .c)) None))
+    cond (atMostZero (k .«ab_ap») && atMostZero (k .«ac_ap»)) (onVertex 0 (t .a))
+    (cond (atLeastZero (k .«ab_bp») && le (k .«ac_bp») (k .«ab_bp»)) (onVertex 1 (t .b))
+    (cond (atLeastZero (k .«ac_cp») && le (k .«ab_cp») (k .«ac_cp»)) (onVertex 2 (t .c)) None))
 
 -- what was found, or else the other
 unfoldable pub orElse : MaybeProjection → TriangleProjection → TriangleProjection
@@ -52,7 +41,7 @@ orElse None other = other
 
 -- the face's number: `if n.dot(ap) >= 0.0 { 0 } else { 1 }`
 unfoldable pub faceSide : Float → ℕ
-faceSide «n_ap» = cond (high «n_ap») 0 1
+faceSide «n_ap» = cond (atLeastZero «n_ap») 0 1
 
 module _ (f : Format) where
   -- the edges, the way to pt from each corner, and their products
@@ -85,9 +74,9 @@ module _ (f : Format) where
       let vc = dotV f n (crossV f (v .ab) (v .ap)) in
       let vb = Ieee.neg (dotV f n (crossV f (v .ac) (v .cp))) in
       let va = dotV f n (crossV f (v .bc) (v .bp)) in
-      cond (lt vc zeroF && high (k .«ab_ap») && low (k .«ab_bp»)) Info.OnAB
-      (cond (lt vb zeroF && high (k .«ac_ap») && low (k .«ac_cp»)) Info.OnAC
-      (cond (lt va zeroF && high (_⊖_ f (k .«ac_bp») (k .«ab_bp»)) && high (_⊖_ f (k .«ab_cp») (k .«ac_cp»))) Info.OnBC
+      cond (lt vc zeroF && atLeastZero (k .«ab_ap») && atMostZero (k .«ab_bp»)) Info.OnAB
+      (cond (lt vb zeroF && atLeastZero (k .«ac_ap») && atMostZero (k .«ac_cp»)) Info.OnAC
+      (cond (lt va zeroF && atLeastZero (_⊖_ f (k .«ac_bp») (k .«ab_bp»)) && atLeastZero (_⊖_ f (k .«ab_cp») (k .«ac_cp»))) Info.OnBC
       (Info.OnFace (faceSide (dotV f n (v .ap))) va vb vc)))
 
   -- a + ab * v on the edge i
@@ -145,8 +134,18 @@ barycentricCoordinates (OnEdge i u v) = edgeWeights i u v
 barycentricCoordinates (OnFace i u v w) = Weights.Some u v w
 barycentricCoordinates OnSolid = Weights.None
 
--- the outcome's number
-unfoldable pub barycentricOutcome : BarycentricCoordinates → ℕ
-barycentricOutcome (Weights.Some u v w) = 0
-barycentricOutcome Weights.None = 0
-barycentricOutcome Weights.Refused = 2
+-- ---- document 01's number of an answer, 0 or refusal 2, and its values: whether it is the Rust's `None`, and the weights, zeros where there are none
+unfoldable pub barycentricNumber : BarycentricCoordinates → ℕ
+barycentricNumber (Weights.Some u v w) = 0
+barycentricNumber Weights.None = 0
+barycentricNumber Weights.Refused = 2
+
+unfoldable pub barycentricNone : BarycentricCoordinates → Bool
+barycentricNone (Weights.Some u v w) = false
+barycentricNone Weights.None = true
+barycentricNone Weights.Refused = false
+
+unfoldable pub barycentricValues : BarycentricCoordinates → Vec3
+barycentricValues (Weights.Some u v w) = vec3 u v w
+barycentricValues Weights.None = zeroV
+barycentricValues Weights.Refused = zeroV

@@ -14,6 +14,7 @@ use Rattle.projection.specs.declared.segment.SegmentProjection.{SegmentProjecti
 use Rattle.projection.specs.declared.triangle.TrianglePointLocation.{TrianglePointLocation}
 use Rattle.projection.specs.declared.tetrahedron.TetrahedronPointLocation.{TetrahedronPointLocation}
 use Rattle.projection.specs.declared.tetrahedron.TetrahedronProjection.{TetrahedronProjection}
+use Rattle.projection.proofs.Choice.{either}
 use Rattle.projection.proofs.Locations.{SegmentHas, TriangleHas, TetrahedronHas, SegmentFits, TetrahedronFits, segment-fits, triangle-fits, tetrahedron-fits}
 use Rattle.simplex.specs.declared.simplex.VoronoiSimplex.{VoronoiSimplex}
 use Rattle.simplex.specs.declared.location.Location.{Location}
@@ -78,10 +79,6 @@ location-fits f s h = by-dimension (s .dim) _ _ _ _ h (LocatedFits.at _ _ Simple
 
 -- ---- what is applied
 
-either-done : (b : Bool) (x y : Altered) → x .outcome ≡ Done → y .outcome ≡ Done → cond b x y .outcome ≡ Done
-either-done true x y h k = h
-either-done false x y h k = k
-
 segment-applies : (s : VoronoiSimplex) (l : SegmentPointLocation) → SegmentHas l → applySegment s l .outcome ≡ Done
 unfolding applySegment
 segment-applies s _ (SegmentHas.vertex zero h) = refl
@@ -106,7 +103,7 @@ tetrahedron-face s (suc (suc (suc (suc i)))) u v w h = absurd (omega arith)
 
 tetrahedron-edge : (s : VoronoiSimplex) (i : ℕ) (u v : Float) → i ≤ 5 → tetrahedronEdge s i u v .outcome ≡ Done
 unfolding tetrahedronEdge
-tetrahedron-edge s i u v h = rw (le-ltb 5 i h) (either-done (eqb i 3 || eqb i 4) _ _ refl refl)
+tetrahedron-edge s i u v h = rw (le-ltb 5 i h) (either (λ (t : Altered). t .outcome ≡ Done) (eqb i 3 || eqb i 4) _ _ refl refl)
 
 tetrahedron-applies : (s : VoronoiSimplex) (l : TetrahedronPointLocation) → TetrahedronHas l → applyTetrahedron s l .outcome ≡ Done
 unfolding applyTetrahedron
