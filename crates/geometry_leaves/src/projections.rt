@@ -1,12 +1,13 @@
 // Projections and what is asked of triangles and numbers.
 ghost use mathlib.Core.Path.{_≡_};
 ghost use lib.Ieee.{binary32};
+ghost use Rattle.vector.specs.Vector.{zeroV};
 ghost use Rattle.projection.specs.Inside.{withinOrigin};
 ghost use Rattle.projection.specs.Relative.{relativeEq};
 ghost use Rattle.projection.specs.Segment.{projectSegment};
 ghost use Rattle.projection.specs.Triangle.{projectTriangle, isAffinelyDependent, barycentricCoordinates};
 ghost use Rattle.projection.specs.Tetrahedron.{projectTetrahedron};
-ghost use Rattle.geometry_leaves.specs.Projections.{placedAt, notPlaced, segmentAt, triangleAt, tetrahedronAt};
+ghost use Rattle.geometry_leaves.specs.Projections.{placedBy, segmentBy, triangleBy, tetrahedronBy};
 ghost use Rattle.geometry_leaves.specs.Projections.{segmentPlaced, trianglePlaced, tetrahedronPlaced, locationOf, weightsOf};
 use projection::BarycentricCoordinates;
 use projection::Segment;
@@ -38,7 +39,7 @@ pub struct Weights {
 }
 
 fn placed_at(point: Vec3, kind: u32, number: u32, weights: Vec3) -> Placed
-    ensures { λ r. ⌜ r ≡ placedAt point kind number weights ⌝ }
+    ensures { λ r. ⌜ r ≡ placedBy 0 point kind number weights ⌝ }
 {
     Placed {
         refused: false,
@@ -50,7 +51,7 @@ fn placed_at(point: Vec3, kind: u32, number: u32, weights: Vec3) -> Placed
 }
 
 fn not_placed() -> Placed
-    ensures { λ r. ⌜ r ≡ notPlaced ⌝ }
+    ensures { λ r. ⌜ r ≡ placedBy 2 zeroV 0 0 zeroV ⌝ }
 {
     Placed {
         refused: true,
@@ -62,7 +63,7 @@ fn not_placed() -> Placed
 }
 
 fn segment_at(point: Vec3, location: SegmentPointLocation) -> Placed
-    ensures { λ r. ⌜ r ≡ segmentAt point location ⌝ }
+    ensures { λ r. ⌜ r ≡ segmentBy 0 point location ⌝ }
 {
     match location {
         SegmentPointLocation::OnVertex(i) => placed_at(point, 0, i, Vec3::ZERO),
@@ -71,7 +72,7 @@ fn segment_at(point: Vec3, location: SegmentPointLocation) -> Placed
 }
 
 fn triangle_at(point: Vec3, location: TrianglePointLocation) -> Placed
-    ensures { λ r. ⌜ r ≡ triangleAt point location ⌝ }
+    ensures { λ r. ⌜ r ≡ triangleBy 0 point location ⌝ }
 {
     match location {
         TrianglePointLocation::OnVertex(i) => placed_at(point, 0, i, Vec3::ZERO),
@@ -82,7 +83,7 @@ fn triangle_at(point: Vec3, location: TrianglePointLocation) -> Placed
 }
 
 fn tetrahedron_at(point: Vec3, location: TetrahedronPointLocation) -> Placed
-    ensures { λ r. ⌜ r ≡ tetrahedronAt point location ⌝ }
+    ensures { λ r. ⌜ r ≡ tetrahedronBy 0 point location ⌝ }
 {
     match location {
         TetrahedronPointLocation::OnVertex(i) => placed_at(point, 0, i, Vec3::ZERO),

@@ -76,12 +76,12 @@ module _ (f : Format) (k : Search) where
   reduced-step s Projection.Refused r q dir m h = no-end _ q h
   reduced-step s (Projection.At proj) r q dir m h = go (eqb (s .dim) 3) (le (epsTol f) m) (leb 99 (r .niter)) _ _ _ refl h
     where
-      go : (d b l : Bool) (x y z : GJKResult) → leb 99 (r .niter) ≡ l → cond d (cond b (endedWith s x) (endedWith s y)) (cond l (endedWith s z) (onwardWith s (roundAfter f r proj dir))) .next ≡ Onward q → Step r q
+      go : (d b l : Bool) (x y z : GJKResult) → leb 99 (r .niter) ≡ l → cond d (cond b (endedWith s x) (endedWith s y)) (cond l (endedWith s z) (onwardWith s (roundAfter r proj dir))) .next ≡ Onward q → Step r q
       go true true l x y z e h = no-end x q h
       go true false l x y z e h = no-end y q h
       go false b true x y z e h = no-end z q h
       go false b false x y z e h =
-          let same : roundAfter f r proj dir ≡ q = cc in
+          let same : roundAfter r proj dir ≡ q = cc in
           went (leb-false 99 (r .niter) e) (sym (ap (λ (t : Round). t .niter) same)) (sym (ap (λ (t : Round). t .«nb_perturbs») same))
 
   added-step : (s : VoronoiSimplex) (a : Answer) (r q : Round) (dir : Vec3) (m : Float) → addedBy f k s a r dir m .next ≡ Onward q → Step r q
@@ -115,14 +115,14 @@ module _ (f : Format) (k : Search) where
       go false m v h = no-end Refused q h
 
   -- a turn whose bound doesn't fall takes a perturbation
-  stagnated-step : (s : VoronoiSimplex) (r q : Round) (dir : Vec3) → stagnated f k s r dir .next ≡ Onward q → (r .«nb_perturbs» < 6) × ((m : Float) × (v : Vertex) × Step (bettered f (perturbedRound f r) m v) q)
+  stagnated-step : (s : VoronoiSimplex) (r q : Round) (dir : Vec3) → stagnated f k s r dir .next ≡ Onward q → (r .«nb_perturbs» < 6) × ((m : Float) × (v : Vertex) × Step (bettered f (perturbedRound r) m v) q)
   unfolding stagnated
   stagnated-step s r q dir h = go (lt zeroF (r .«best_min_bound»)) (touching f k r) (ltb (r .«nb_perturbs») 6) _ _ _ refl h
     where
-      go : (b t p : Bool) (x y z : GJKResult) → ltb (r .«nb_perturbs») 6 ≡ p → cond b (endedWith s x) (cond t (endedWith s y) (cond p (probed f k s (perturbedRound f r) (perturbedDir f dir (r .«nb_perturbs» + 1))) (endedWith s z))) .next ≡ Onward q → (r .«nb_perturbs» < 6) × ((m : Float) × (v : Vertex) × Step (bettered f (perturbedRound f r) m v) q)
+      go : (b t p : Bool) (x y z : GJKResult) → ltb (r .«nb_perturbs») 6 ≡ p → cond b (endedWith s x) (cond t (endedWith s y) (cond p (probed f k s (perturbedRound r) (perturbedDir f dir (r .«nb_perturbs» + 1))) (endedWith s z))) .next ≡ Onward q → (r .«nb_perturbs» < 6) × ((m : Float) × (v : Vertex) × Step (bettered f (perturbedRound r) m v) q)
       go true t p x y z e h = no-end x q h
       go false true p x y z e h = no-end y q h
-      go false false true x y z e h = (ltb-true (r .«nb_perturbs») 6 e, probed-step s (perturbedRound f r) q (perturbedDir f dir (r .«nb_perturbs» + 1)) h)
+      go false false true x y z e h = (ltb-true (r .«nb_perturbs») 6 e, probed-step s (perturbedRound r) q (perturbedDir f dir (r .«nb_perturbs» + 1)) h)
       go false false false x y z e h = no-end z q h
 
   -- ---- what is left of a run
@@ -150,18 +150,18 @@ module _ (f : Format) (k : Search) where
   unfolding stuck dist one
   stands r q l b p = ap one (ap (λ (v : Vec3). le (q .«max_bound») (normalizeAndLengthV f (negV v) .length)) p ∙ ap (λ (m : Float). le m (dist r)) b ∙ self (dist r) (epsTol f) l)
 
-  stuck-less : (r q : Round) (m : Float) (v : Vertex) → lt (epsTol f) (dist r) ≡ true → r .«nb_perturbs» < 6 → Step (bettered f (perturbedRound f (boundedBy f r (dist r))) m v) q → left q < 99 - r .niter + (6 - r .«nb_perturbs»)
+  stuck-less : (r q : Round) (m : Float) (v : Vertex) → lt (epsTol f) (dist r) ≡ true → r .«nb_perturbs» < 6 → Step (bettered f (perturbedRound (boundedBy r (dist r))) m v) q → left q < 99 - r .niter + (6 - r .«nb_perturbs»)
   unfolding left bettered perturbedRound boundedBy
-  stuck-less r q m v l p (stood e _) = rw e (omega (arith, stands r (bettered f (perturbedRound f (boundedBy f r (dist r))) m v) l refl refl))
+  stuck-less r q m v l p (stood e _) = rw e (omega (arith, stands r (bettered f (perturbedRound (boundedBy r (dist r))) m v) l refl refl))
   stuck-less r q m v l p (went n i b) =
       let round : q .niter ≡ r .niter + 1 = i in
       let perturbed : q .«nb_perturbs» ≡ r .«nb_perturbs» + 1 = b in
       let early : r .niter < 99 = n in
       omega (arith, one-most (stuck q))
 
-  free-less : (r q : Round) (m : Float) (v : Vertex) → lt (epsTol f) (dist r) ≡ true → Step (bettered f (boundedBy f r (dist r)) m v) q → left q < 99 - r .niter + (6 - r .«nb_perturbs») + 1
+  free-less : (r q : Round) (m : Float) (v : Vertex) → lt (epsTol f) (dist r) ≡ true → Step (bettered f (boundedBy r (dist r)) m v) q → left q < 99 - r .niter + (6 - r .«nb_perturbs») + 1
   unfolding left bettered boundedBy
-  free-less r q m v l (stood e _) = rw e (omega (arith, stands r (bettered f (boundedBy f r (dist r)) m v) l refl refl))
+  free-less r q m v l (stood e _) = rw e (omega (arith, stands r (bettered f (boundedBy r (dist r)) m v) l refl refl))
   free-less r q m v l (went n i b) =
       let round : q .niter ≡ r .niter + 1 = i in
       let perturbed : q .«nb_perturbs» ≡ r .«nb_perturbs» = b in
@@ -176,9 +176,9 @@ module _ (f : Format) (k : Search) where
       dir : Vec3
       dir = normalizeAndLengthV f (negV (r .proj)) .normalized
 
-      go : (t u : Bool) → lt (epsTol f) (dist r) ≡ t → stuck r ≡ u → cond t (cond u (stagnated f k s (boundedBy f r (dist r)) dir) (probed f k s (boundedBy f r (dist r)) dir)) (endedWith s Intersection) .next ≡ Onward q → left q < 99 - r .niter + (6 - r .«nb_perturbs») + one u
-      go true true l u h = let p = stagnated-step s (boundedBy f r (dist r)) q dir h in omega (arith, stuck-less r q (p .1 .0) (p .1 .1) l (p .0) (p .1 .2))
-      go true false l u h = let p = probed-step s (boundedBy f r (dist r)) q dir h in free-less r q (p .0) (p .1) l (p .2)
+      go : (t u : Bool) → lt (epsTol f) (dist r) ≡ t → stuck r ≡ u → cond t (cond u (stagnated f k s (boundedBy r (dist r)) dir) (probed f k s (boundedBy r (dist r)) dir)) (endedWith s Intersection) .next ≡ Onward q → left q < 99 - r .niter + (6 - r .«nb_perturbs») + one u
+      go true true l u h = let p = stagnated-step s (boundedBy r (dist r)) q dir h in omega (arith, stuck-less r q (p .1 .0) (p .1 .1) l (p .0) (p .1 .2))
+      go true false l u h = let p = probed-step s (boundedBy r (dist r)) q dir h in free-less r q (p .0) (p .1) l (p .2)
       go false u l v h = no-end Intersection q h
 
   -- so a run with more turns than are left has turns to spare
@@ -189,7 +189,7 @@ module _ (f : Format) (k : Search) where
   spare (suc n) (suc m) s r h l =
       go (turnOf f k s r .simplex) (turnOf f k s r .next) (λ q e. spare n m (turnOf f k s r .simplex) q (omega (arith, falls s r q e)) (omega arith))
     where
-      go : (t : VoronoiSimplex) (x : Next) → ((q : Round) → x ≡ Onward q → runOf f k m t q ≡ runOf f k n t q) → after f (runOf f k m) t x ≡ after f (runOf f k n) t x
+      go : (t : VoronoiSimplex) (x : Next) → ((q : Round) → x ≡ Onward q → runOf f k m t q ≡ runOf f k n t q) → after (runOf f k m) t x ≡ after (runOf f k n) t x
       go t (Ended x) e = refl
       go t (Onward q) e = e q refl
 
@@ -234,6 +234,6 @@ enough turns l f supp maxDist exact s =
     let k : Search = record { supp = supp; maxDist = maxDist; exact = exact; epsRel = root f (epsTol f) } in
     ap (finishedBy s) (go k (startOf f s .simplex) (startOf f s .next) (λ r e. starts f k s r e))
   where
-    go : (k : Search) (t : VoronoiSimplex) (x : Next) → ((r : Round) → x ≡ Onward r → left f k r < 107) → after f (runOf f k turns) t x ≡ after f (runOf f k 107) t x
+    go : (k : Search) (t : VoronoiSimplex) (x : Next) → ((r : Round) → x ≡ Onward r → left f k r < 107) → after (runOf f k turns) t x ≡ after (runOf f k 107) t x
     go k t (Ended x) h = refl
     go k t (Onward r) h = spare f k 107 turns t r (h r refl) l

@@ -5,7 +5,6 @@
 -- `Round` is what the loop carries; a turn is one pass through its body.
 use Prim.Native.Nat.{ℕ, zero, suc, _+_}
 use mathlib.Core.Bool.{Bool, true, false, not, _&&_, cond}
-use mathlib.Core.List.{List, [], _∷_}
 use lib.Dec.{leb, ltb, eqb}
 use lib.Ieee as Ieee
 use lib.Ieee.{Float, Format, binary32, lt, le}
@@ -39,7 +38,7 @@ use Rattle.gjk.specs.declared.rounds.Turn.{Turn}
 use Rattle.gjk.specs.Witnesses.{resultOf}
 use Rattle.gjk.specs.Perturbed.{perturbedDir}
 
--- ---- document 01's number of each result, 0 or refusal 2, and its values: letter D has three vectors, M and S one, an intersection none, and a refusal zeros
+-- ---- document 01's number of each result, 0 or refusal 2, and its values: letter D has two points and a direction, M and S a direction; what a result has not got is zeros
 unfoldable pub gjkNumber : GJKResult → ℕ
 gjkNumber Intersection = 0
 gjkNumber (ClosestPoints p1 p2 d) = 0
@@ -47,12 +46,20 @@ gjkNumber (Proximity d) = 0
 gjkNumber (NoIntersection d) = 0
 gjkNumber Refused = 2
 
-unfoldable pub gjkValues : GJKResult → List Vec3
-gjkValues Intersection = []
-gjkValues (ClosestPoints p1 p2 d) = p1 ∷ p2 ∷ d ∷ []
-gjkValues (Proximity d) = d ∷ []
-gjkValues (NoIntersection d) = d ∷ []
-gjkValues Refused = zeroV ∷ zeroV ∷ zeroV ∷ []
+pub record Values : Type 0 where
+  pub p1 : Vec3
+  pub p2 : Vec3
+  pub dir : Vec3
+
+abbrev pub values : Vec3 → Vec3 → Vec3 → Values
+values p1 p2 d = record { p1 = p1; p2 = p2; dir = d }
+
+unfoldable pub gjkValues : GJKResult → Values
+gjkValues Intersection = values zeroV zeroV zeroV
+gjkValues (ClosestPoints p1 p2 d) = values p1 p2 d
+gjkValues (Proximity d) = values zeroV zeroV d
+gjkValues (NoIntersection d) = values zeroV zeroV d
+gjkValues Refused = values zeroV zeroV zeroV
 
 -- ---- what a run is asked: the support points of the two shapes, the largest distance, the exact flag; and `_eps_rel`
 pub record Search : Type 0 where
@@ -74,12 +81,60 @@ endedWith s x = record { simplex = s; next = Ended x }
 abbrev pub maxPerturbations : ℕ
 maxPerturbations = 6
 
-module _ (f : Format) where
-  -- `ClosestPoints` of `result(simplex, prev)`
-  abbrev pub closestAt : Witnesses → Vec3 → GJKResult
-  closestAt (Points.At p1 p2) dir = ClosestPoints p1 p2 dir
-  closestAt Points.Refused dir = Refused
+-- ---- what a round becomes, in the order of the loop's body
 
+-- `max_bound = dist`
+unfoldable pub boundedBy : Round → Float → Round
+boundedBy r dist =
+    record {
+      proj = r .proj;
+      «old_dir» = r .«old_dir»;
+      «max_bound» = dist;
+      «best_min_bound» = r .«best_min_bound»;
+      «support_scale» = r .«support_scale»;
+      «nb_perturbs» = r .«nb_perturbs»;
+      niter = r .niter;
+    }
+
+-- `nb_perturbs += 1`
+unfoldable pub perturbedRound : Round → Round
+perturbedRound r =
+    record {
+      proj = r .proj;
+      «old_dir» = r .«old_dir»;
+      «max_bound» = r .«max_bound»;
+      «best_min_bound» = r .«best_min_bound»;
+      «support_scale» = r .«support_scale»;
+      «nb_perturbs» = r .«nb_perturbs» + 1;
+      niter = r .niter;
+    }
+
+-- the end of a round: `old_dir = dir; proj = simplex.project_origin_and_reduce(); niter += 1`
+unfoldable pub roundAfter : Round → Vec3 → Vec3 → Round
+roundAfter r proj dir =
+    record {
+      proj = proj;
+      «old_dir» = dir;
+      «max_bound» = r .«max_bound»;
+      «best_min_bound» = r .«best_min_bound»;
+      «support_scale» = r .«support_scale»;
+      «nb_perturbs» = r .«nb_perturbs»;
+      niter = r .niter + 1;
+    }
+
+-- ---- what ends a run
+
+-- `ClosestPoints` of `result(simplex, prev)`
+abbrev pub closestAt : Witnesses → Vec3 → GJKResult
+closestAt (Points.At p1 p2) dir = ClosestPoints p1 p2 dir
+closestAt Points.Refused dir = Refused
+
+-- a turn's end is the run's, or the run goes on
+unfoldable pub after : (VoronoiSimplex → Round → Gjk) → VoronoiSimplex → Next → Gjk
+after go s (Onward r) = go s r
+after go s (Ended x) = record { simplex = s; result = x }
+
+module _ (f : Format) where
   unfoldable pub closestBy : VoronoiSimplex → Bool → Vec3 → GJKResult
   closestBy s prev dir = closestAt (resultOf f s prev) dir
 
@@ -97,19 +152,6 @@ module _ (f : Format) where
       cond (lt zeroF (r .«best_min_bound»)) (endedWith s (apartBy (k .exact) s false dir))
       (cond (touching k r) (endedWith s (closestBy s false dir))
       (cond (ltb (r .«nb_perturbs») maxPerturbations) (onwardWith s r) (endedWith s Intersection)))
-
-  -- the end of a round: `old_dir = dir; proj = simplex.project_origin_and_reduce()`
-  unfoldable pub roundAfter : Round → Vec3 → Vec3 → Round
-  roundAfter r proj dir =
-      record {
-        proj = proj;
-        «old_dir» = dir;
-        «max_bound» = r .«max_bound»;
-        «best_min_bound» = r .«best_min_bound»;
-        «support_scale» = r .«support_scale»;
-        «nb_perturbs» = r .«nb_perturbs»;
-        niter = r .niter + 1;
-      }
 
   -- in dimension 3 the origin is inside, or the bound says that it is not. `niter += 1; if niter == 100`: `niter` goes up from 0 by one, so this is the test for 99
   -- or more before the sum
@@ -160,18 +202,6 @@ module _ (f : Format) where
       let minBound = Ieee.neg (dotV f dir (cso .point)) in
       cond (finite minBound) (bounded k s (bettered r minBound cso) dir minBound cso) (endedWith s Refused)
 
-  unfoldable pub perturbedRound : Round → Round
-  perturbedRound r =
-      record {
-        proj = r .proj;
-        «old_dir» = r .«old_dir»;
-        «max_bound» = r .«max_bound»;
-        «best_min_bound» = r .«best_min_bound»;
-        «support_scale» = r .«support_scale»;
-        «nb_perturbs» = r .«nb_perturbs» + 1;
-        niter = r .niter;
-      }
-
   -- `if max_bound >= old_max_bound`
   unfoldable pub stagnated : Search → VoronoiSimplex → Round → Vec3 → Turn
   stagnated k s r dir =
@@ -180,18 +210,6 @@ module _ (f : Format) where
       (cond (ltb (r .«nb_perturbs») maxPerturbations)
       (probed k s (perturbedRound r) (perturbedDir f dir (r .«nb_perturbs» + 1)))
       (endedWith s Intersection)))
-
-  unfoldable pub boundedBy : Round → Float → Round
-  boundedBy r dist =
-      record {
-        proj = r .proj;
-        «old_dir» = r .«old_dir»;
-        «max_bound» = dist;
-        «best_min_bound» = r .«best_min_bound»;
-        «support_scale» = r .«support_scale»;
-        «nb_perturbs» = r .«nb_perturbs»;
-        niter = r .niter;
-      }
 
   -- one turn of the loop
   unfoldable pub turnOf : Search → VoronoiSimplex → Round → Turn
@@ -202,11 +220,6 @@ module _ (f : Format) where
       cond (lt (epsTol f) dist)
       (cond (le (r .«max_bound») dist) (stagnated k s (boundedBy r dist) dir) (probed k s (boundedBy r dist) dir))
       (endedWith s Intersection)
-
-  -- a turn's end is the run's, or the run goes on
-  unfoldable pub after : (VoronoiSimplex → Round → Gjk) → VoronoiSimplex → Next → Gjk
-  after go s (Onward r) = go s r
-  after go s (Ended x) = record { simplex = s; result = x }
 
   -- at most n turns; none is left only where n is too small
   unfoldable pub runOf : Search → ℕ → VoronoiSimplex → Round → Gjk
@@ -253,7 +266,7 @@ unfoldable pub closestWithin : ℕ → Format → (Vec3 → Vertex) → Float �
 closestWithin turns f supp maxDist exact s =
     let k : Search = record { supp = supp; maxDist = maxDist; exact = exact; epsRel = root f (epsTol f) } in
     let t = startOf f s in
-    finishedBy s (after f (runOf f k turns) (t .simplex) (t .next))
+    finishedBy s (after (runOf f k turns) (t .simplex) (t .next))
 
 -- `closest_points`
 unfoldable pub closestPoints : Format → (Vec3 → Vertex) → Float → Bool → VoronoiSimplex → Gjk

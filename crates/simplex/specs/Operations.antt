@@ -2,12 +2,14 @@
 -- Carries the methods of `VoronoiSimplex` of src/query/gjk/voronoi_simplex3.rs: first those that round nothing, then `add_point`, `max_sq_len` and `modify_pnts`.
 -- `new` is in Simplex.antt, the projections are in Reduction.antt.
 use Prim.Native.Nat.{ℕ, _+_}
-use mathlib.Core.Bool.{Bool, _&&_, cond}
+use mathlib.Core.Bool.{Bool, true, false, _&&_, cond}
 use lib.Dec.{leb, ltb}
 use lib.ListN.{getD}
-use lib.Ieee.{Format, nan}
+use lib.Ieee.{Float, Format, nan}
 use Rattle.vector.specs.declared.vec3.Vec3.{Vec3}
+use Rattle.vector.specs.Vector.{zeroF}
 use Rattle.shape.specs.declared.vertex.Vertex.{Vertex}
+use Rattle.shape.specs.Vertex.{zeroVertex}
 use Rattle.simplex.specs.declared.simplex.VoronoiSimplex.{VoronoiSimplex}
 use Rattle.simplex.specs.declared.operations.Outcome.{Outcome}
 use Rattle.simplex.specs.declared.operations.Outcome.the-variants.{Done, Refused}
@@ -23,7 +25,7 @@ use Rattle.simplex.specs.declared.operations.Corner.{Corner}
 use Rattle.simplex.specs.declared.operations.Corner.the-variants.{At, Refused as NoCorner}
 use Rattle.simplex.specs.Simplex.{isSimplex, vertexAt, swapIn, resetIn, savedIn, grownIn, nearSimplex, hasPoint, maxSqLenOf, translatedIn}
 
--- ---- document 01's number of each answer: 0 where it carries one, 2 for the refusal
+-- ---- document 01's number of each answer, 0 or refusal 2, and its value, of the refusal zeros
 unfoldable pub outcomeNumber : Outcome → ℕ
 outcomeNumber Done = 0
 outcomeNumber Refused = 2
@@ -33,17 +35,34 @@ answerNumber Yes = 0
 answerNumber No = 0
 answerNumber NoAnswer = 2
 
+unfoldable pub answerValue : Answer → Bool
+answerValue Yes = true
+answerValue No = false
+answerValue NoAnswer = false
+
 unfoldable pub numberNumber : Number → ℕ
 numberNumber (Is x) = 0
 numberNumber NoNumber = 2
+
+unfoldable pub numberValue : Number → Float
+numberValue (Is x) = x
+numberValue NoNumber = zeroF
 
 unfoldable pub sizeNumber : Size → ℕ
 sizeNumber (IsSize n) = 0
 sizeNumber NoSize = 2
 
+unfoldable pub sizeValue : Size → ℕ
+sizeValue (IsSize n) = n
+sizeValue NoSize = 0
+
 unfoldable pub cornerNumber : Corner → ℕ
 cornerNumber (At v) = 0
 cornerNumber NoCorner = 2
+
+unfoldable pub cornerValue : Corner → Vertex
+cornerValue (At v) = v
+cornerValue NoCorner = zeroVertex
 
 -- ---- the operations
 

@@ -148,10 +148,14 @@ abbrev pub pointOf : Located → Projected
 pointOf (Found.At p l) = At p
 pointOf Found.Refused = Refused
 
--- document 01's number of a projection: 0 where there is one, 2 for the refusal
+-- document 01's number of a projection, 0 or refusal 2, and its value, of the refusal zeros
 unfoldable pub projectedNumber : Projected → ℕ
 projectedNumber (At p) = 0
 projectedNumber Refused = 2
+
+unfoldable pub projectedValue : Projected → Vec3
+projectedValue (At p) = p
+projectedValue Refused = zeroV
 
 module _ (f : Format) where
   unfoldable pub reduceIn : VoronoiSimplex → Reduced

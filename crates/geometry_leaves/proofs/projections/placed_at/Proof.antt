@@ -1,11 +1,11 @@
--- `placed_at` returns `placedAt`.
+-- `placed_at` returns `placedBy`.
 use mathlib.Core.Path.{refl}
-use Rattle.geometry_leaves.specs.Projections.{placedAt}
+use Rattle.geometry_leaves.specs.Projections.{placedBy}
 use Rattle.geometry_leaves.proofs.projections.placed_at.Statement.{statement}
 use Rattle.geometry_leaves.proofs.projections.placed_at.Tie as tie
 
 returns : tie.Need-returns
-unfolding placedAt
+unfolding placedBy
 returns c = refl
 
 pub placed-at-spec : {M : Type 1} → statement M

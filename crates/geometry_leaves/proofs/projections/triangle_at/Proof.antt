@@ -1,25 +1,25 @@
--- `triangle_at` returns `triangleAt`, case by case.
+-- `triangle_at` returns `triangleBy`, case by case.
 use borrow.Author.Needs.{needs}
 use lib.Ieee.{ofBits}
 use Rattle.vector.specs.Vector.{zeroV}
-use Rattle.geometry_leaves.specs.Projections.{triangleAt}
+use Rattle.geometry_leaves.specs.Projections.{triangleBy}
 use Rattle.geometry_leaves.proofs.projections.triangle_at.Statement.{statement}
 use Rattle.geometry_leaves.proofs.projections.triangle_at.Tie as tie
 
 returns : tie.Need-returns
-unfolding triangleAt zeroV ofBits
+unfolding triangleBy zeroV ofBits
 returns c = simp (← c .placed-at .ensures, c .before .before .location .given .1)
 
 returns-2 : tie.Need-returns-2
-unfolding triangleAt zeroV ofBits
+unfolding triangleBy zeroV ofBits
 returns-2 c = simp (← c .before .new .ensures, ← c .placed-at2 .ensures, c .before .before .before .location2 .given .1)
 
 returns-3 : tie.Need-returns-3
-unfolding triangleAt zeroV ofBits
+unfolding triangleBy zeroV ofBits
 returns-3 c = simp (← c .before .new2 .ensures, ← c .placed-at3 .ensures, c .before .before .before .location3 .given .1)
 
 returns-4 : tie.Need-returns-4
-unfolding triangleAt zeroV ofBits
+unfolding triangleBy zeroV ofBits
 returns-4 c = simp (← c .placed-at4 .ensures, c .before .enum-told .given .1)
 
 pub triangle-at-spec : {M : Type 1} → statement M
