@@ -1,12 +1,13 @@
 -- Records there and back, on their words: a valid record that is encoded at a place is read there as itself (`encoded-case`), and what is read whole is valid, and
--- the bytes that it was read from are its encoding (`decoded-case`). By the numbers of a record, each there and back. Assumes nothing.
+-- the bytes that it was read from are its encoding (`decoded-case`), so that refusal 4 is given exactly where no valid record is encoded (`refused-only`, `refused-whenever`).
+-- By the numbers of a record, each there and back. Assumes nothing.
 use Prim.Native.Nat.{ℕ, zero, suc, _+_, _-_, _^_, _<_, _≤_}
 use mathlib.Core.Path.{_≡_, refl, sym, ap, _∙_}
 use mathlib.Core.Bool.{Bool, true, false, cond}
 use mathlib.Core.List.{List, [], _∷_, _++_, append-assoc, append-nil}
 use native.Mathlib.Nat.{add-zero}
 use native.Mathlib.Omega.{arith}
-use lib.ListN.{length, take, drop, length-append}
+use lib.ListN.{length, take, drop, length-append, take-append-drop}
 use lib.Seq.{drop-append-seam, drop-drop, take-append-seam}
 use lib.Dec.{leb}
 use borrow.Author.Tests.{le-leb, leb-true}
@@ -16,7 +17,7 @@ use Rattle.casefile.specs.declared.records.CaseAnswer.{CaseAnswer}
 use Rattle.casefile.specs.declared.records.Reading.{Reading}
 use Rattle.casefile.specs.declared.records.Reading.the-variants.{At, Bad, Ended}
 use Rattle.casefile.specs.Numbers.{decodeNumber, encode}
-use Rattle.casefile.specs.Records.{got, numberOf, numberAt, spoiled, smallAt, numbersAt, ShapeWords, Words, sizeOf, shapeWordsAt, wordsAt, caseOf, answerOf, readCase, encodeAll, shapeNumbers, numbersOf, encodeCase}
+use Rattle.casefile.specs.Records.{got, numberOf, numberAt, spoiled, smallAt, numbersAt, ShapeWords, Words, sizeOf, shapeWordsAt, wordsAt, caseOf, answerOf, readCase, caseNumber, encodeAll, shapeNumbers, numbersOf, encodeCase}
 use Rattle.casefile.proofs.RoundTrip.{Bytes, Stands, decoded, read-back}
 
 -- ---- rows of numbers
@@ -261,3 +262,18 @@ decoded-case s at c next b e =
       after = a;
       bytes = rw (d, l) (take-append-seam (encodeAll (numbersOf w)) (drop next s));
     }
+
+-- refusal 4 is given only where no valid record is encoded, and wherever none is
+pub refused-only : (s : List ℕ) (at : ℕ) → caseNumber (readCase s at) ≡ 4 → (w : Words) (t : List ℕ) → Valid w → drop at s ≡ encodeCase w ++ t → ⊥
+refused-only s at h w t v e = let k = ap (λ (x : CaseAnswer). caseNumber x) (encoded-case-read w s t at v e) in omega (arith, k)
+
+pub refused-whenever : (s : List ℕ) (at : ℕ) → Bytes s → ((w : Words) (t : List ℕ) → Valid w → drop at s ≡ encodeCase w ++ t → ⊥) → caseNumber (readCase s at) ≡ 4
+refused-whenever s at b none = go (readCase s at) refl
+  where
+    go : (x : CaseAnswer) → readCase s at ≡ x → caseNumber x ≡ 4
+    go (CaseAnswer.Whole c next) e =
+        let d = decoded-case s at c next b e in
+        let l = drop at s in
+        absurd (none (d .words) (drop (next - at) l) (d .valid) (sym (take-append-drop (next - at) l) ∙ ap (λ (t : List ℕ). t ++ drop (next - at) l) (d .bytes)))
+    go (CaseAnswer.Malformed p) e = refl
+    go CaseAnswer.Ended e = refl

@@ -5,7 +5,7 @@
 use Prim.Native.Nat.{ℕ, zero, suc, _+_}
 use mathlib.Core.Bool.{Bool, cond}
 use mathlib.Core.List.{List, [], _∷_, _++_}
-use lib.ListN.{getD}
+use lib.ListN.{length, getD}
 use lib.Dec.{leb, eqb}
 use lib.Ieee.{Float, binary32, ofBits, toBits}
 use Rattle.vector.specs.declared.vec3.Vec3.{Vec3}
@@ -159,11 +159,16 @@ answerOf c Ended = CaseAnswer.Ended
 unfoldable pub readCase : List ℕ → ℕ → CaseAnswer
 readCase s at = let w = wordsAt s (At at) in answerOf (caseOf (w .value)) (w .reading)
 
--- document 01's number of each case: 0 for a record, and refusal 4
+-- document 01's number of what stands at a place of s, 0 for a record or refusal 4, and its value: the place after the record; of the refusal the offset, the length of s where that ends inside
 abbrev pub caseNumber : CaseAnswer → ℕ
 caseNumber (CaseAnswer.Whole c next) = 0
 caseNumber (CaseAnswer.Malformed p) = 4
 caseNumber CaseAnswer.Ended = 4
+
+abbrev pub caseValue : List ℕ → CaseAnswer → ℕ
+caseValue s (CaseAnswer.Whole c next) = next
+caseValue s (CaseAnswer.Malformed p) = p
+caseValue s CaseAnswer.Ended = length s
 
 -- ---- writing
 

@@ -8,7 +8,7 @@ use lib.Seq.{sets}
 use lib.Ieee.{Float}
 use Rattle.casefile.specs.declared.records.Case.{Case}
 use Rattle.casefile.specs.declared.records.CaseAnswer.{CaseAnswer}
-use Rattle.casefile.specs.Records.{readCase}
+use Rattle.casefile.specs.Records.{readCase, caseValue}
 use Rattle.lines.specs.declared.line.Outcome.{Outcome}
 use Rattle.lines.specs.declared.text.Placed.{Placed}
 use Rattle.lines.specs.declared.text.Placed.the-variants as Place
@@ -66,12 +66,12 @@ lineTold next x = told (lineTurn next (x .answer)) (x .bytes)
 abbrev pub badTold : After → Told
 badTold x = told (badTurn (x .answer)) (x .bytes)
 
--- a record's line; in its place the offset of a malformed number, or of the window's end where it ends inside the record
+-- a record's line; in its place, of refusal 4, the offset of a malformed number, or of the window's end where it ends inside the record
 abbrev pub turnBy : CaseAnswer → List ℕ → ℕ → ℕ → List ℕ → ℕ → List Float → List ℕ → List ℕ → List Float → List ℕ → List ℕ → List ℕ → List ℕ → List Float → Final Told
 turnBy (CaseAnswer.Whole c next) s base number o place v p a n d ef ec hf hk =
     answered (λ (x : Outcome). lineTold next (placeOf o place (lineOf number x))) (caseOutcome c v p a n d ef ec hf hk)
-turnBy (CaseAnswer.Malformed b) s base number o place v p a n d ef ec hf hk = finalBy (badTold (placeOf o place (badLine (offsetOf base b)))) v p a n d ef ec hf hk
-turnBy CaseAnswer.Ended s base number o place v p a n d ef ec hf hk = finalBy (badTold (placeOf o place (badLine (offsetOf base (length s))))) v p a n d ef ec hf hk
+turnBy (CaseAnswer.Malformed b) s base number o place v p a n d ef ec hf hk = finalBy (badTold (placeOf o place (badLine (offsetOf base (caseValue s (CaseAnswer.Malformed b)))))) v p a n d ef ec hf hk
+turnBy CaseAnswer.Ended s base number o place v p a n d ef ec hf hk = finalBy (badTold (placeOf o place (badLine (offsetOf base (caseValue s CaseAnswer.Ended))))) v p a n d ef ec hf hk
 
 -- after so many records a run stops as at the file's end
 abbrev pub mostRecords : ℕ
