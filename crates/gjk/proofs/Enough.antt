@@ -1,12 +1,13 @@
 -- The turns of a run are never spent: within 107 one ends it (`always-ends`), so that 107 give what any larger number gives (`enough`), for any format, support function and simplex.
 -- A turn that goes on is a round, of which the hundredth ends the run, or it leaves the projection and the bound alone (`Step`). Then the bound doesn't fall in the next
 -- turn, which takes one of six perturbations or ends. So `left`, the rounds, the perturbations and one turn before a perturbation that are left, falls at each turn.
+-- `niter` starts at 0 and rises by one, so that it is below 100 in each turn (`few-first`, `few-after`): the test for the hundredth wants this, and so does the code's sum.
 use Prim.Native.Nat.{ℕ, zero, suc, _+_, _-_, _*_, _≤_, _<_}
 use mathlib.Core.Path.{_≡_, refl, sym, ap, _∙_}
 use mathlib.Core.Bool.{Bool, true, false, not, _&&_, _||_, cond}
 use native.Mathlib.Omega.{arith}
-use borrow.Author.Tests.{ltb-true, leb-false}
-use lib.Dec.{T, leb, ltb, eqb, eqb-refl}
+use borrow.Author.Tests.{ltb-true, eqb-false}
+use lib.Dec.{T, ltb, eqb, eqb-refl}
 use lib.Ieee as Ieee
 use lib.Ieee.{Float, nan, inf, fin, Format, up, down, below, level, lt, le, eq}
 use lib.Ieee.Scale.{finite}
@@ -58,7 +59,33 @@ self (fin s m e) d h = alike s (m * up e * down e)
 -- ---- how a turn goes on: the round stands as it is and a perturbation is left, or it is the next round
 data Step (r q : Round) : Type 0 where
   stood : q ≡ r → r .«nb_perturbs» < 6 → Step r q
-  went : r .niter < 99 → q .niter ≡ r .niter + 1 → q .«nb_perturbs» ≡ r .«nb_perturbs» → Step r q
+  went : (r .niter + 1 ≡ 100 → ⊥) → q .niter ≡ r .niter + 1 → q .«nb_perturbs» ≡ r .«nb_perturbs» → Step r q
+
+-- ---- `niter` stays below 100
+not-last : (n : ℕ) → n < 100 → (n + 1 ≡ 100 → ⊥) → n < 99
+not-last n h l = omega arith
+
+few-still : (r q : Round) → r .niter < 100 → Step r q → q .niter < 100
+few-still r q h (stood e _) = rw e h
+few-still r q h (went l i b) = omega (arith, not-last (r .niter) h l)
+
+-- ---- the first round has none before it
+first-round : (f : Format) (s : VoronoiSimplex) (r : Round) → startOf f s .next ≡ Onward r → (r .niter ≡ 0) × (r .«nb_perturbs» ≡ 0)
+unfolding startOf firstRound
+first-round f s r h = let t = projectOriginAndReduce f s in go (t .simplex) (t .projection) h
+  where
+    within : (s : VoronoiSimplex) (proj : Vec3) (d : MaybeVec3) → startIn f s proj d .next ≡ Onward r → (r .niter ≡ 0) × (r .«nb_perturbs» ≡ 0)
+    within s proj (Direction.Some d) h =
+        let same : firstRound f proj d ≡ r = cc in
+        (sym (ap (λ (q : Round). q .niter) same), sym (ap (λ (q : Round). q .«nb_perturbs») same))
+    within s proj Direction.None h = no-end Intersection r h
+
+    go : (s : VoronoiSimplex) (p : Projected) → startAt f s p .next ≡ Onward r → (r .niter ≡ 0) × (r .«nb_perturbs» ≡ 0)
+    go s (Projection.At proj) h = within s proj (tryNormalizeV f proj) h
+    go s Projection.Refused h = no-end Refused r h
+
+pub few-first : (f : Format) (s : VoronoiSimplex) (r : Round) → startOf f s .next ≡ Onward r → r .niter < 100
+few-first f s r h = omega (arith, first-round f s r h .0)
 
 module _ (f : Format) (k : Search) where
   stalled-step : (s : VoronoiSimplex) (r q : Round) (dir : Vec3) → stalled f k s r dir .next ≡ Onward q → Step r q
@@ -74,15 +101,15 @@ module _ (f : Format) (k : Search) where
   reduced-step : (s : VoronoiSimplex) (p : Projected) (r q : Round) (dir : Vec3) (m : Float) → reducedTo f k s p r dir m .next ≡ Onward q → Step r q
   unfolding roundAfter
   reduced-step s Projection.Refused r q dir m h = no-end _ q h
-  reduced-step s (Projection.At proj) r q dir m h = go (eqb (s .dim) 3) (le (epsTol f) m) (leb 99 (r .niter)) _ _ _ refl h
+  reduced-step s (Projection.At proj) r q dir m h = go (eqb (s .dim) 3) (le (epsTol f) m) (eqb (r .niter + 1) 100) _ _ _ refl h
     where
-      go : (d b l : Bool) (x y z : GJKResult) → leb 99 (r .niter) ≡ l → cond d (cond b (endedWith s x) (endedWith s y)) (cond l (endedWith s z) (onwardWith s (roundAfter r proj dir))) .next ≡ Onward q → Step r q
+      go : (d b l : Bool) (x y z : GJKResult) → eqb (r .niter + 1) 100 ≡ l → cond d (cond b (endedWith s x) (endedWith s y)) (cond l (endedWith s z) (onwardWith s (roundAfter r proj dir))) .next ≡ Onward q → Step r q
       go true true l x y z e h = no-end x q h
       go true false l x y z e h = no-end y q h
       go false b true x y z e h = no-end z q h
       go false b false x y z e h =
           let same : roundAfter r proj dir ≡ q = cc in
-          went (leb-false 99 (r .niter) e) (sym (ap (λ (t : Round). t .niter) same)) (sym (ap (λ (t : Round). t .«nb_perturbs») same))
+          went (eqb-false (r .niter + 1) 100 e) (sym (ap (λ (t : Round). t .niter) same)) (sym (ap (λ (t : Round). t .«nb_perturbs») same))
 
   added-step : (s : VoronoiSimplex) (a : Answer) (r q : Round) (dir : Vec3) (m : Float) → addedBy f k s a r dir m .next ≡ Onward q → Step r q
   unfolding advanced
@@ -150,44 +177,44 @@ module _ (f : Format) (k : Search) where
   unfolding stuck dist one
   stands r q l b p = ap one (ap (λ (v : Vec3). le (q .«max_bound») (normalizeAndLengthV f (negV v) .length)) p ∙ ap (λ (m : Float). le m (dist r)) b ∙ self (dist r) (epsTol f) l)
 
-  stuck-less : (r q : Round) (m : Float) (v : Vertex) → lt (epsTol f) (dist r) ≡ true → r .«nb_perturbs» < 6 → Step (bettered f (perturbedRound (boundedBy r (dist r))) m v) q → left q < 99 - r .niter + (6 - r .«nb_perturbs»)
+  stuck-less : (r q : Round) → r .niter < 100 → (m : Float) (v : Vertex) → lt (epsTol f) (dist r) ≡ true → r .«nb_perturbs» < 6 → Step (bettered f (perturbedRound (boundedBy r (dist r))) m v) q → left q < 99 - r .niter + (6 - r .«nb_perturbs»)
   unfolding left bettered perturbedRound boundedBy
-  stuck-less r q m v l p (stood e _) = rw e (omega (arith, stands r (bettered f (perturbedRound (boundedBy r (dist r))) m v) l refl refl))
-  stuck-less r q m v l p (went n i b) =
+  stuck-less r q w m v l p (stood e _) = rw e (omega (arith, stands r (bettered f (perturbedRound (boundedBy r (dist r))) m v) l refl refl))
+  stuck-less r q w m v l p (went n i b) =
       let round : q .niter ≡ r .niter + 1 = i in
       let perturbed : q .«nb_perturbs» ≡ r .«nb_perturbs» + 1 = b in
-      let early : r .niter < 99 = n in
+      let early : r .niter < 99 = not-last (r .niter) w n in
       omega (arith, one-most (stuck q))
 
-  free-less : (r q : Round) (m : Float) (v : Vertex) → lt (epsTol f) (dist r) ≡ true → Step (bettered f (boundedBy r (dist r)) m v) q → left q < 99 - r .niter + (6 - r .«nb_perturbs») + 1
+  free-less : (r q : Round) → r .niter < 100 → (m : Float) (v : Vertex) → lt (epsTol f) (dist r) ≡ true → Step (bettered f (boundedBy r (dist r)) m v) q → left q < 99 - r .niter + (6 - r .«nb_perturbs») + 1
   unfolding left bettered boundedBy
-  free-less r q m v l (stood e _) = rw e (omega (arith, stands r (bettered f (boundedBy r (dist r)) m v) l refl refl))
-  free-less r q m v l (went n i b) =
+  free-less r q w m v l (stood e _) = rw e (omega (arith, stands r (bettered f (boundedBy r (dist r)) m v) l refl refl))
+  free-less r q w m v l (went n i b) =
       let round : q .niter ≡ r .niter + 1 = i in
       let perturbed : q .«nb_perturbs» ≡ r .«nb_perturbs» = b in
-      let early : r .niter < 99 = n in
+      let early : r .niter < 99 = not-last (r .niter) w n in
       omega (arith, one-most (stuck q))
 
-  -- at each turn that goes on, less is left
-  falls : (s : VoronoiSimplex) (r q : Round) → turnOf f k s r .next ≡ Onward q → left q < left r
-  unfolding turnOf boundedBy left stuck dist one
-  falls s r q h = go (lt (epsTol f) (dist r)) (stuck r) refl refl h
+  -- at each turn that goes on, less is left, and `niter` stays below 100
+  falls : (s : VoronoiSimplex) (r q : Round) → r .niter < 100 → turnOf f k s r .next ≡ Onward q → (left q < left r) × (q .niter < 100)
+  unfolding turnOf bettered perturbedRound boundedBy left stuck dist one
+  falls s r q w h = go (lt (epsTol f) (dist r)) (stuck r) refl refl h
     where
       dir : Vec3
       dir = normalizeAndLengthV f (negV (r .proj)) .normalized
 
-      go : (t u : Bool) → lt (epsTol f) (dist r) ≡ t → stuck r ≡ u → cond t (cond u (stagnated f k s (boundedBy r (dist r)) dir) (probed f k s (boundedBy r (dist r)) dir)) (endedWith s Intersection) .next ≡ Onward q → left q < 99 - r .niter + (6 - r .«nb_perturbs») + one u
-      go true true l u h = let p = stagnated-step s (boundedBy r (dist r)) q dir h in omega (arith, stuck-less r q (p .1 .0) (p .1 .1) l (p .0) (p .1 .2))
-      go true false l u h = let p = probed-step s (boundedBy r (dist r)) q dir h in free-less r q (p .0) (p .1) l (p .2)
+      go : (t u : Bool) → lt (epsTol f) (dist r) ≡ t → stuck r ≡ u → cond t (cond u (stagnated f k s (boundedBy r (dist r)) dir) (probed f k s (boundedBy r (dist r)) dir)) (endedWith s Intersection) .next ≡ Onward q → (left q < 99 - r .niter + (6 - r .«nb_perturbs») + one u) × (q .niter < 100)
+      go true true l u h = let p = stagnated-step s (boundedBy r (dist r)) q dir h in (omega (arith, stuck-less r q w (p .1 .0) (p .1 .1) l (p .0) (p .1 .2)), few-still _ q w (p .1 .2))
+      go true false l u h = let p = probed-step s (boundedBy r (dist r)) q dir h in (free-less r q w (p .0) (p .1) l (p .2), few-still _ q w (p .2))
       go false u l v h = no-end Intersection q h
 
   -- so a run with more turns than are left has turns to spare
-  spare : (n m : ℕ) (s : VoronoiSimplex) (r : Round) → left r < n → n ≤ m → runOf f k m s r ≡ runOf f k n s r
+  spare : (n m : ℕ) (s : VoronoiSimplex) (r : Round) → r .niter < 100 → left r < n → n ≤ m → runOf f k m s r ≡ runOf f k n s r
   unfolding runOf after
-  spare zero m s r h l = absurd (omega arith)
-  spare (suc n) zero s r h l = absurd (omega arith)
-  spare (suc n) (suc m) s r h l =
-      go (turnOf f k s r .simplex) (turnOf f k s r .next) (λ q e. spare n m (turnOf f k s r .simplex) q (omega (arith, falls s r q e)) (omega arith))
+  spare zero m s r w h l = absurd (omega arith)
+  spare (suc n) zero s r w h l = absurd (omega arith)
+  spare (suc n) (suc m) s r w h l =
+      go (turnOf f k s r .simplex) (turnOf f k s r .next) (λ q e. let p = falls s r q w e in spare n m (turnOf f k s r .simplex) q (p .1) (omega (arith, p .0)) (omega arith))
     where
       go : (t : VoronoiSimplex) (x : Next) → ((q : Round) → x ≡ Onward q → runOf f k m t q ≡ runOf f k n t q) → after (runOf f k m) t x ≡ after (runOf f k n) t x
       go t (Ended x) e = refl
@@ -195,20 +222,11 @@ module _ (f : Format) (k : Search) where
 
   -- the first round has all before it
   starts : (s : VoronoiSimplex) (r : Round) → startOf f s .next ≡ Onward r → left r < 107
-  unfolding startOf left firstRound
-  starts s r h = let t = projectOriginAndReduce f s in go (t .simplex) (t .projection) h
-    where
-      within : (s : VoronoiSimplex) (proj : Vec3) (d : MaybeVec3) → startIn f s proj d .next ≡ Onward r → left r < 107
-      within s proj (Direction.Some d) h =
-          let same : firstRound f proj d ≡ r = cc in
-          let rounds : r .niter ≡ 0 = sym (ap (λ (q : Round). q .niter) same) in
-          let perturbed : r .«nb_perturbs» ≡ 0 = sym (ap (λ (q : Round). q .«nb_perturbs») same) in
-          omega (arith, one-most (stuck r))
-      within s proj Direction.None h = no-end Intersection r h
+  unfolding left
+  starts s r h = omega (arith, one-most (stuck r), first-round f s r h .0, first-round f s r h .1)
 
-      go : (s : VoronoiSimplex) (p : Projected) → startAt f s p .next ≡ Onward r → left r < 107
-      go s (Projection.At proj) h = within s proj (tryNormalizeV f proj) h
-      go s Projection.Refused h = no-end Refused r h
+  pub few-after : (s : VoronoiSimplex) (r q : Round) → r .niter < 100 → turnOf f k s r .next ≡ Onward q → q .niter < 100
+  few-after s r q w h = falls s r q w h .1
 
   -- a run of at most n turns comes to one that ends it
   pub data Ends : ℕ → VoronoiSimplex → Round → Type 0 where
@@ -219,21 +237,22 @@ module _ (f : Format) (k : Search) where
   ended-by n s r (Ended x) e more = last x e
   ended-by n s r (Onward q) e more = further q e (more q e)
 
-  ends-within : (n : ℕ) (s : VoronoiSimplex) (r : Round) → left r < n → Ends n s r
-  ends-within zero s r h = absurd (omega arith)
-  ends-within (suc n) s r h = ended-by n s r (turnOf f k s r .next) refl (λ q e. ends-within n (turnOf f k s r .simplex) q (omega (arith, falls s r q e)))
+  ends-within : (n : ℕ) (s : VoronoiSimplex) (r : Round) → r .niter < 100 → left r < n → Ends n s r
+  ends-within zero s r w h = absurd (omega arith)
+  ends-within (suc n) s r w h =
+      ended-by n s r (turnOf f k s r .next) refl (λ q e. let p = falls s r q w e in ends-within n (turnOf f k s r .simplex) q (p .1) (omega (arith, p .0)))
 
   -- the loop ends within 107 turns, by a turn of its own
   pub always-ends : (s : VoronoiSimplex) (r : Round) → startOf f s .next ≡ Onward r → Ends 107 (startOf f s .simplex) r
-  always-ends s r h = ends-within 107 (startOf f s .simplex) r (starts s r h)
+  always-ends s r h = ends-within 107 (startOf f s .simplex) r (few-first f s r h) (starts s r h)
 
 -- 107 turns are enough: any more give the same
 pub enough : (turns : ℕ) → 107 ≤ turns → (f : Format) (supp : Vec3 → Vertex) (maxDist : Float) (exact : Bool) (s : VoronoiSimplex) → closestWithin turns f supp maxDist exact s ≡ closestPoints f supp maxDist exact s
 unfolding closestWithin closestPoints after
 enough turns l f supp maxDist exact s =
     let k : Search = record { supp = supp; maxDist = maxDist; exact = exact; epsRel = root f (epsTol f) } in
-    ap (finishedBy s) (go k (startOf f s .simplex) (startOf f s .next) (λ r e. starts f k s r e))
+    ap (finishedBy s) (go k (startOf f s .simplex) (startOf f s .next) (λ r e. (starts f k s r e, few-first f s r e)))
   where
-    go : (k : Search) (t : VoronoiSimplex) (x : Next) → ((r : Round) → x ≡ Onward r → left f k r < 107) → after (runOf f k turns) t x ≡ after (runOf f k 107) t x
+    go : (k : Search) (t : VoronoiSimplex) (x : Next) → ((r : Round) → x ≡ Onward r → (left f k r < 107) × (r .niter < 100)) → after (runOf f k turns) t x ≡ after (runOf f k 107) t x
     go k t (Ended x) h = refl
-    go k t (Onward r) h = spare f k 107 turns t r (h r refl) l
+    go k t (Onward r) h = let p = h r refl in spare f k 107 turns t r (p .1) (p .0) l

@@ -5,7 +5,7 @@
 -- `Round` is what the loop carries; a turn is one pass through its body.
 use Prim.Native.Nat.{ℕ, zero, suc, _+_}
 use mathlib.Core.Bool.{Bool, true, false, not, _&&_, cond}
-use lib.Dec.{leb, ltb, eqb}
+use lib.Dec.{ltb, eqb}
 use lib.Ieee as Ieee
 use lib.Ieee.{Float, Format, binary32, lt, le}
 use lib.Ieee.Scale.{finite}
@@ -153,13 +153,12 @@ module _ (f : Format) where
       (cond (touching k r) (endedWith s (closestBy s false dir))
       (cond (ltb (r .«nb_perturbs») maxPerturbations) (onwardWith s r) (endedWith s Intersection)))
 
-  -- in dimension 3 the origin is inside, or the bound says that it is not. `niter += 1; if niter == 100`: `niter` goes up from 0 by one, so this is the test for 99
-  -- or more before the sum
+  -- in dimension 3 the origin is inside, or the bound says that it is not; else `niter += 1; if niter == 100`
   abbrev pub reducedTo : Search → VoronoiSimplex → Projected → Round → Vec3 → Float → Turn
   reducedTo k s (Projection.At proj) r dir minBound =
       cond (eqb (s .dim) 3)
       (cond (le (epsTol f) minBound) (endedWith s (apartBy (k .exact) s true dir)) (endedWith s Intersection))
-      (cond (leb 99 (r .niter)) (endedWith s (NoIntersection xV)) (onwardWith s (roundAfter r proj dir)))
+      (cond (eqb (r .niter + 1) 100) (endedWith s (NoIntersection xV)) (onwardWith s (roundAfter r proj dir)))
   reducedTo k s Projection.Refused r dir minBound = endedWith s Refused
 
   unfoldable pub advanced : Search → VoronoiSimplex → Round → Vec3 → Float → Turn

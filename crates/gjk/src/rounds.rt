@@ -1,4 +1,5 @@
 // `closest_points` of gjk.rs: the start, the rounds and their ways out.
+ghost use Prim.Native.Nat.{_<_};
 ghost use mathlib.Core.Path.{_≡_};
 ghost use lib.Ieee.{binary32};
 ghost use Rattle.gjk.specs.Gjk.{searchOf, closestBy, apartBy, touching, stalled, advanced, extended, bounded, probed, stagnated};
@@ -42,7 +43,8 @@ struct Query {
     eps_rel: f32,
 }
 
-// What the Rust's loop carries from round to round, besides the simplex.
+// What the Rust's loop carries from round to round, besides the simplex. `niter` stays below 100, as the
+// round that brings it there ends the run.
 struct Round {
     proj: Vec3,
     old_dir: Vec3,
@@ -125,6 +127,7 @@ fn stalled_turn(q: Query, simplex: VoronoiSimplex, r: Round, dir: Vec3) -> Turn
 
 // The vertex is in: the simplex is reduced, and the round is over.
 fn advanced_turn(q: Query, simplex: VoronoiSimplex, r: Round, dir: Vec3, min_bound: f32) -> Turn
+    requires { ⌜ r .niter < 100 ⌝ }
     ensures { λ t. ⌜ t ≡ advanced binary32 (searchOf q) simplex r dir «min_bound» ⌝ }
 {
     let reduced = simplex.project_origin_and_reduce();
@@ -139,13 +142,13 @@ fn advanced_turn(q: Query, simplex: VoronoiSimplex, r: Round, dir: Vec3, min_bou
         }
         return ended(smaller, GJKResult::Intersection);
     }
-    if 99 <= r.niter {
-        return ended(smaller, GJKResult::NoIntersection(Vec3::X));
-    }
     let mut next = r;
     next.proj = proj;
     next.old_dir = dir;
     next.niter = r.niter + 1;
+    if next.niter == 100 {
+        return ended(smaller, GJKResult::NoIntersection(Vec3::X));
+    }
     onward(smaller, next)
 }
 
@@ -157,6 +160,7 @@ fn extended_turn(
     min_bound: f32,
     cso_point: Vertex,
 ) -> Turn
+    requires { ⌜ r .niter < 100 ⌝ }
     ensures { λ t. ⌜ t ≡ extended binary32 (searchOf q) simplex r dir «min_bound» «cso_point» ⌝ }
 {
     let added = simplex.add_point(cso_point);
@@ -178,6 +182,7 @@ fn bounded_turn(
     min_bound: f32,
     cso_point: Vertex,
 ) -> Turn
+    requires { ⌜ r .niter < 100 ⌝ }
     ensures { λ t. ⌜ t ≡ bounded binary32 (searchOf q) simplex r dir «min_bound» «cso_point» ⌝ }
 {
     if min_bound > q.max_dist {
@@ -195,6 +200,7 @@ fn bounded_turn(
 
 // The support point of `dir`, and the bounds it gives. The Rust asserts that the lower one is finite.
 fn probed_turn(q: Query, simplex: VoronoiSimplex, r: Round, dir: Vec3) -> Turn
+    requires { ⌜ r .niter < 100 ⌝ }
     ensures { λ t. ⌜ t ≡ probed binary32 (searchOf q) simplex r dir ⌝ }
 {
     let pos12 = q.pos12;
@@ -214,6 +220,7 @@ fn probed_turn(q: Query, simplex: VoronoiSimplex, r: Round, dir: Vec3) -> Turn
 
 // The upper bound does not fall: decided by the best lower bound, or `dir` is perturbed.
 fn stagnated_turn(q: Query, simplex: VoronoiSimplex, r: Round, dir: Vec3) -> Turn
+    requires { ⌜ r .niter < 100 ⌝ }
     ensures { λ t. ⌜ t ≡ stagnated binary32 (searchOf q) simplex r dir ⌝ }
 {
     let old_dir = r.old_dir;
@@ -234,6 +241,7 @@ fn stagnated_turn(q: Query, simplex: VoronoiSimplex, r: Round, dir: Vec3) -> Tur
 
 // One turn of the Rust's loop.
 fn turn_of(q: Query, simplex: VoronoiSimplex, r: Round) -> Turn
+    requires { ⌜ r .niter < 100 ⌝ }
     ensures { λ t. ⌜ t ≡ turnOf binary32 (searchOf q) simplex r ⌝ }
 {
     let proj = r.proj;
@@ -254,6 +262,7 @@ fn turn_of(q: Query, simplex: VoronoiSimplex, r: Round) -> Turn
 // The turns. A hundred rounds end the run, and a turn that is no round is followed by one of six
 // perturbations, so 107 turns are never spent (`proofs/Enough.antt`).
 fn run_of(q: Query, simplex: VoronoiSimplex, start: Round) -> Gjk
+    requires { ⌜ start .niter < 100 ⌝ }
     ensures { λ g. ⌜ g ≡ runOf binary32 (searchOf q) 107 simplex start ⌝ }
 {
     let mut present = simplex;

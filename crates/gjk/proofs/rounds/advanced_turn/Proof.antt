@@ -1,6 +1,6 @@
 -- `advanced_turn` returns `advanced`, test by test.
 use borrow.Author.Needs.{needs}
-use borrow.Author.Tests.{eq-eqb, le-leb, lt-leb, ne-eqb}
+use borrow.Author.Tests.{eq-eqb, ne-eqb}
 use lib.Ieee.{ofBits}
 use Rattle.vector.specs.Vector.{xV}
 use Rattle.gjk.specs.Gjk.{roundAfter, advanced}
@@ -21,11 +21,11 @@ returns-3 c = simp (← c .before .before .before .before .before .before .befor
 
 returns-4 : tie.Need-returns-4
 unfolding advanced roundAfter xV ofBits
-returns-4 c = simp (← c .before .before .before .before .before .before .before .before .before .project-origin-and-reduce .ensures, ← c .ended4 .ensures, le-leb _ _ (c .before .if3 .taken), ne-eqb _ _ (c .before .before .before .if1 .left), c .before .before .before .before .before .before .projection .given .1)
+returns-4 c = simp (← c .before .before .before .before .before .before .before .before .before .before .project-origin-and-reduce .ensures, ← c .ended4 .ensures, eq-eqb _ _ (c .before .if3 .taken), ne-eqb _ _ (c .before .before .before .before .if1 .left), c .before .before .before .before .before .before .before .projection .given .1)
 
 returns-5 : tie.Need-returns-5
 unfolding advanced roundAfter xV ofBits
-returns-5 c = simp (← c .before .before .before .before .before .before .before .before .before .before .project-origin-and-reduce .ensures, ← c .onward .ensures, lt-leb _ _ (c .before .before .if3 .left), ne-eqb _ _ (c .before .before .before .before .if1 .left), c .before .before .before .before .before .before .before .projection .given .1)
+returns-5 c = simp (← c .before .before .before .before .before .before .before .before .before .before .project-origin-and-reduce .ensures, ← c .onward .ensures, ne-eqb _ _ (c .before .if3 .left), ne-eqb _ _ (c .before .before .before .before .if1 .left), c .before .before .before .before .before .before .before .projection .given .1)
 
 pub advanced-turn-spec : {M : Type 1} → statement M
-advanced-turn-spec = tie.close (tie.spec (λ c κs. tt) (λ c. search needs) (λ c. search needs) (λ c κs. tt) returns (λ c κs. tt) (λ c κs. tt) (λ c κs. tt) returns-2 (λ c κs. tt) returns-3 (λ c κs. tt) returns-4 (λ c. search needs) (λ c κs. tt) returns-5)
+advanced-turn-spec = tie.close (tie.spec (λ c κs. tt) (λ c. search needs) (λ c. search needs) (λ c κs. tt) returns (λ c κs. tt) (λ c κs. tt) (λ c κs. tt) returns-2 (λ c κs. tt) returns-3 (λ c. search needs) (λ c κs. tt) returns-4 (λ c κs. tt) returns-5)

@@ -1,4 +1,5 @@
 -- `bounded_turn` returns `bounded`, test by test.
+use borrow.Author.Needs.{needs}
 use lib.Ieee.{ofBits}
 use Rattle.gjk.specs.Gjk.{bounded}
 use Rattle.gjk.proofs.rounds.bounded_turn.Statement.{statement}
@@ -21,4 +22,4 @@ unfolding bounded ofBits
 returns-4 c = simp (← c .extended-turn .ensures, c .before .if3 .left, c .before .before .before .before .before .if2 .left, c .before .before .before .before .before .before .before .before .before .if1 .left)
 
 pub bounded-turn-spec : {M : Type 1} → statement M
-bounded-turn-spec = tie.close (tie.spec (λ c κs. tt) returns (λ c κs. tt) returns-2 (λ c κs. tt) (λ c κs. tt) returns-3 (λ c κs. tt) returns-4)
+bounded-turn-spec = tie.close (tie.spec (λ c κs. tt) returns (λ c κs. tt) returns-2 (λ c κs. tt) (λ c κs. tt) returns-3 (λ c κs. search needs) returns-4)

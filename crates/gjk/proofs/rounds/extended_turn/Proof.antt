@@ -17,4 +17,4 @@ unfolding extended
 returns-3 c = simp (← c .before .before .before .before .add-point .ensures, ← c .ended .ensures, c .before .enum-told3 .given .1)
 
 pub extended-turn-spec : {M : Type 1} → statement M
-extended-turn-spec = tie.close (tie.spec (λ c κs. tt) (λ c. search needs) (λ c κs. tt) (λ c. search needs) (λ c κs. tt) (λ c. search needs) (λ c κs. tt) returns returns-2 returns-3)
+extended-turn-spec = tie.close (tie.spec (λ c κs. tt) (λ c. search needs) (λ c κs. search needs) (λ c. search needs) (λ c κs. tt) (λ c. search needs) (λ c κs. tt) returns returns-2 returns-3)

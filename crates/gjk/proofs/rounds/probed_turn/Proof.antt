@@ -1,4 +1,5 @@
 -- `probed_turn` returns `probed`.
+use borrow.Author.Needs.{needs}
 use Rattle.gjk.specs.Gjk.{bettered, probed}
 use Rattle.gjk.proofs.rounds.probed_turn.Statement.{statement}
 use Rattle.gjk.proofs.rounds.probed_turn.Tie as tie
@@ -12,4 +13,4 @@ unfolding probed bettered
 returns-2 c = simp (← c .before .before .before .before .before .from-shapes .ensures, ← c .before .before .before .dot .ensures, ← c .before .before .is-finite .ensures, ← c .ended .ensures, c .before .if1 .left)
 
 pub probed-turn-spec : {M : Type 1} → statement M
-probed-turn-spec = tie.close (tie.spec (λ c κs. tt) (λ c κs. tt) (λ c κs. tt) (λ c κs. tt) (λ c κs. tt) (λ c κs. tt) (λ c κs. tt) returns (λ c κs. tt) returns-2)
+probed-turn-spec = tie.close (tie.spec (λ c κs. tt) (λ c κs. tt) (λ c κs. tt) (λ c κs. tt) (λ c κs. tt) (λ c κs. tt) (λ c κs. search needs) returns (λ c κs. tt) returns-2)

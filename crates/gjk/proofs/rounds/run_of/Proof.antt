@@ -1,6 +1,6 @@
--- `run_of` returns `runOf` with 107 turns. The invariant: the turns that are left, run from here, give what all of them give from the start.
+-- `run_of` returns `runOf` with 107 turns. The invariant: the turns that are left, run from here, give what all of them give from the start; and `niter` is below 100.
 use Prim.Native.Nat.{ℕ, suc, _+_, _-_, _<_, _≤_}
-use mathlib.Core.Path.{_≡_, _∙_, sym, refl}
+use mathlib.Core.Path.{_≡_, _∙_, sym, ap, refl}
 use native.Mathlib.Omega.{arith}
 use borrow.Author.Needs.{needs}
 use lib.Ieee.{binary32, ofBits}
@@ -11,6 +11,7 @@ use Rattle.gjk.specs.declared.rounds.Round.{Round}
 use Rattle.gjk.specs.declared.rounds.Next.the-variants.{Onward, Ended}
 use Rattle.gjk.specs.declared.rounds.Turn.{Turn}
 use Rattle.gjk.specs.Gjk.{Search, searchOf, turnOf, after, runOf}
+use Rattle.gjk.proofs.Enough.{few-after}
 use Rattle.gjk.proofs.rounds.run_of.Statement.{statement}
 use Rattle.gjk.proofs.rounds.run_of.Tie as tie
 
@@ -26,31 +27,35 @@ ends : (k : Search) (i : ℕ) (s : VoronoiSimplex) (r : Round) (t : Turn) (x : G
 unfolding runOf after
 ends k i s r t x h e d = rw (left i h, ← e, d)
 
+still-few : (k : Search) (s : VoronoiSimplex) (r q : Round) (t : Turn) → r .niter < 100 → t ≡ turnOf binary32 k s r → t .next ≡ Onward q → q .niter < 100
+still-few k s r q t w e d = few-after binary32 k s r q w (ap (λ (x : Turn). x .next) (sym e) ∙ d)
+
 spent : (k : Search) (i : ℕ) (s : VoronoiSimplex) (r : Round) → 107 ≤ i → runOf binary32 k (107 - i) s r ≡ runOf binary32 k 0 s r
 spent k i s r h = let z : 107 - i ≡ 0 = omega arith in rw z
 
 abbrev Inv-loop : tie.InvT-loop
-Inv-loop q present₀ r₀ i₀ present r i = (i ≤ 107) × (runOf binary32 (searchOf q) (107 - i) present r ≡ runOf binary32 (searchOf q) 107 present₀ r₀)
+Inv-loop q present₀ r₀ i₀ present r i = (i ≤ 107) × (r .niter < 100) × (runOf binary32 (searchOf q) (107 - i) present r ≡ runOf binary32 (searchOf q) 107 present₀ r₀)
 
 abbrev μ-loop : tie.MeasureT-loop
 μ-loop q present₀ r₀ i₀ present r i = 107 - i
 
 loop-holds : tie.Need-loop-holds Inv-loop μ-loop
-loop-holds c = (omega arith, refl)
+loop-holds c = (omega arith, c .pre, refl)
 
 returns : tie.Need-returns Inv-loop μ-loop
 returns c =
     let at = c .before .before .before .before in
-    ends _ _ _ _ _ _ (at .before .loop-test .taken) (at .turn-of .ensures) (c .before .next .given .1) ∙ at .before .before .loop .inv .1
+    ends _ _ _ _ _ _ (at .before .loop-test .taken) (at .turn-of .ensures) (c .before .next .given .1) ∙ at .before .before .loop .inv .2
 
 loop-again : tie.Need-loop-again Inv-loop μ-loop
 loop-again c =
     let at = c .before .before .before .before in
-    (omega arith, goes-on _ _ _ _ _ _ (at .before .loop-test .taken) (at .turn-of .ensures) (c .before .next2 .given .1) ∙ at .before .before .loop .inv .1)
+    let inv = at .before .before .loop .inv in
+    (omega arith, still-few _ _ _ _ _ (inv .1) (at .turn-of .ensures) (c .before .next2 .given .1), goes-on _ _ _ _ _ _ (at .before .loop-test .taken) (at .turn-of .ensures) (c .before .next2 .given .1) ∙ inv .2)
 
 returns-2 : tie.Need-returns-2 Inv-loop μ-loop
 unfolding runOf xV ofBits
-returns-2 c = sym (spent _ _ _ _ (c .loop-test .left)) ∙ c .before .loop .inv .1
+returns-2 c = sym (spent _ _ _ _ (c .loop-test .left)) ∙ c .before .loop .inv .2
 
 pub run-of-spec : {M : Type 1} → statement M
-run-of-spec = tie.close (tie.spec Inv-loop μ-loop loop-holds (λ c κs. tt) (λ c. search needs) returns (λ c. search needs) (λ c. search needs) (λ c. search needs) loop-again returns-2)
+run-of-spec = tie.close (tie.spec Inv-loop μ-loop loop-holds (λ c κs. c .before .loop .inv .1) (λ c. search needs) returns (λ c. search needs) (λ c. search needs) (λ c. search needs) loop-again returns-2)

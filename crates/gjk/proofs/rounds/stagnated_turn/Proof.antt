@@ -26,4 +26,4 @@ unfolding stagnated perturbedRound ofBits
 returns-4 c = simp (← c .before .before .before .before .is-touching .ensures, ← c .ended3 .ensures, le-ltb _ _ (c .before .if3 .left), c .before .before .before .if2 .left, c .before .before .before .before .before .if1 .left)
 
 pub stagnated-turn-spec : {M : Type 1} → statement M
-stagnated-turn-spec = tie.close (tie.spec (λ c κs. tt) (λ c κs. tt) returns (λ c κs. tt) (λ c κs. tt) (λ c κs. tt) returns-2 (λ c. search needs) perturbed-dir-requires (λ c κs. tt) returns-3 (λ c κs. tt) returns-4)
+stagnated-turn-spec = tie.close (tie.spec (λ c κs. tt) (λ c κs. tt) returns (λ c κs. tt) (λ c κs. tt) (λ c κs. tt) returns-2 (λ c. search needs) perturbed-dir-requires (λ c κs. search needs) returns-3 (λ c κs. tt) returns-4)

@@ -1,4 +1,5 @@
 -- `turn_of` returns `turnOf`.
+use borrow.Author.Needs.{needs}
 use Rattle.gjk.specs.Gjk.{boundedBy, turnOf}
 use Rattle.gjk.proofs.rounds.turn_of.Statement.{statement}
 use Rattle.gjk.proofs.rounds.turn_of.Tie as tie
@@ -16,4 +17,4 @@ unfolding turnOf boundedBy
 returns-3 c = simp (← c .before .before .before .before .before .neg .ensures, ← c .before .before .before .before .normalize-and-length .ensures, ← c .before .before .eps-tol .ensures, ← c .ended .ensures, c .before .if1 .left)
 
 pub turn-of-spec : {M : Type 1} → statement M
-turn-of-spec = tie.close (tie.spec (λ c κs. tt) (λ c κs. tt) (λ c κs. tt) (λ c κs. tt) returns (λ c κs. tt) returns-2 (λ c κs. tt) returns-3)
+turn-of-spec = tie.close (tie.spec (λ c κs. tt) (λ c κs. tt) (λ c κs. tt) (λ c κs. search needs) returns (λ c κs. search needs) returns-2 (λ c κs. tt) returns-3)
