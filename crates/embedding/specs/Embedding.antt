@@ -1,7 +1,7 @@
 -- How shapes, answers and verdicts go over to C. Definitions only.
 use mathlib.Core.Bool.{Bool, cond}
 use mathlib.Core.List.{List}
-use Prim.Native.Nat.{ℕ}
+use Prim.Native.Nat.{ℕ, _+_}
 use lib.Dec.{eqb}
 use lib.Ieee.{Float}
 use Rattle.vector.specs.declared.vec3.Vec3.{Vec3}
@@ -15,6 +15,7 @@ use Rattle.epa_lent.specs.Lent.{FinalEdges, onRecords}
 use Rattle.lines.specs.declared.line.Counts as Told
 use Rattle.lines.specs.declared.line.Outcome.{Outcome}
 use Rattle.lines.specs.declared.line.Outcome.the-variants.{ClosestPoints, Proximity, NoIntersection, Penetration, NoAnswer, Panic, NoPlace}
+use Rattle.lines.specs.Lines.{outcomeNumber}
 use Rattle.channel.specs.Channel.{separated}
 use Rattle.vote.specs.declared.Answer.{Answer}
 use Rattle.vote.specs.declared.Counts.{Counts}
@@ -46,19 +47,23 @@ countsOf c = record { expansions = c .expansions; made = c .made; live = c .live
 abbrev pub noCounts : Counts
 noCounts = record { expansions = 0; made = 0; live = 0; edges = 0 }
 
+-- the refusal of document 01's number, after the four answers
+abbrev pub refusedAs : ℕ → Counts → Answer
+refusedAs number c = answerWith (3 + number) zeroV zeroV zeroV c
+
 -- the place of the letter in D M S P N X R; a direction alone stands where the normal does
 unfoldable pub answerOf : Outcome → Answer
 answerOf (ClosestPoints a b n) = answerWith 0 a b n noCounts
 answerOf (Proximity n) = answerWith 1 zeroV zeroV n noCounts
 answerOf (NoIntersection n) = answerWith 2 zeroV zeroV n noCounts
 answerOf (Penetration a b n c) = answerWith 3 a b n (countsOf c)
-answerOf (NoAnswer c) = answerWith 4 zeroV zeroV zeroV (countsOf c)
-answerOf Panic = answerWith 5 zeroV zeroV zeroV noCounts
-answerOf (NoPlace c) = answerWith 6 zeroV zeroV zeroV (countsOf c)
+answerOf (NoAnswer c) = refusedAs (outcomeNumber (NoAnswer c)) (countsOf c)
+answerOf Panic = refusedAs (outcomeNumber Panic) noCounts
+answerOf (NoPlace c) = refusedAs (outcomeNumber (NoPlace c)) (countsOf c)
 
--- a kind above 3
+-- a kind above 3: refusal 4
 unfoldable pub malformed : Answer
-malformed = answerWith 7 zeroV zeroV zeroV noCounts
+malformed = refusedAs 4 noCounts
 
 -- the channel's answer, or the malformed one with the stores as they were lent
 abbrev pub ran : Pose → MaybeShape → MaybeShape → Vec3 → Float → Bool → List Float → List ℕ → List ℕ → List Float → List ℕ → List ℕ → List ℕ → List ℕ → List Float → Final Answer

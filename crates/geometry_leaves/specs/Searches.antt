@@ -21,7 +21,7 @@ kindOver (Proximity d) = 2
 kindOver (NoIntersection d) = 3
 kindOver Refused = 0
 
--- C has one number for the result: the four have the same of document 01, so each its own, and its refusal 2 is 4
+-- C has one number for the result: the four results share document 01's 0, so that each has one of its own here, and refusal 2 is 4
 unfoldable pub gjkOver : Gjk → Found
 gjkOver run =
     let x = run .result in
