@@ -1,11 +1,12 @@
 -- A new face, told of the lists and the answer that the code leaves. Assumes nothing.
 use mathlib.Core.Path.{_≡_, refl, sym, ap, subst, _∙_}
-use mathlib.Core.Bool.{true, false}
+use mathlib.Core.Bool.{Bool, true, false}
 use mathlib.Core.List.{List}
 use Prim.Native.Nat.{ℕ, _+_, _-_, _*_, _%_, _<_, _≤_, suc}
 use lib.ListN.{length, getD, set}
 use lib.Ieee.{Float, binary32}
-use borrow.Author.Tests.{lt-leb, le-leb, eq-eqb, ne-eqb}
+use lib.Dec.{leb}
+use borrow.Author.Tests.{leb-false, eq-eqb, ne-eqb}
 use native.Mathlib.Omega.{arith}
 use Rattle.vector.specs.declared.vec3.Vec3.{Vec3}
 use Rattle.shape.specs.declared.vertex.Vertex.{Vertex}
@@ -13,70 +14,60 @@ use Rattle.polytope.specs.declared.types.Run.{Run}
 use Rattle.polytope.specs.declared.types.Rooms.{Rooms}
 use Rattle.polytope.specs.declared.types.Turn.{Turn}
 use Rattle.polytope.specs.declared.types.Made.{Made}
-use Rattle.polytope.specs.declared.types.End.the-variants.{NoRoom}
-use Rattle.polytope.specs.declared.types.Store.the-variants.{Faces as FaceStore}
+use Rattle.polytope.specs.declared.types.Three.{Three}
+use Rattle.polytope.specs.declared.types.End.{End}
 use Rattle.polytope.specs.declared.types.Step.{Step}
 use Rattle.polytope.specs.declared.types.Step.the-variants.{Onward, Ended}
 use Rattle.polytope.specs.Face.{faceNew}
-use Rattle.polytope.specs.Polytope.{Faces, Out, Nil, stateOf, withFaces, worldOf, vertexAt, threeN, oneMore, queueNew, link, pushFace, growAt, grow, growAll, ok, stepOut, stopIf, doIf, next, put, look, _>>=_, _>>_}
+use Rattle.polytope.specs.Polytope.{Out, Nil, stateOf, worldOf, vertexAt, threeN, queueNew, link, pushFace, growAt, grow, growAll, ok, stepOut, stopIf, doIf, next, put, look, _>>=_, _>>_}
 use Rattle.polytope.proofs.Lists.{next-one, next-two}
-use Rattle.pushes.specs.Contracts.{facesOf, heapRoom}
+use Rattle.pushes.specs.Contracts.{heapRoom, PushesFace}
 use Rattle.growth.specs.Contracts.{QueuesNew, GrowsAt, Grows, GrowsAll}
 
-module _ (rooms : Rooms) (run : Run) (u : Turn) (f c : ℕ) (v : List Float) (p a : List ℕ) (n : List Float) (d hf : List ℕ) (hk : List Float)
-    (x y : ℕ) (m : Made) (a1 : List ℕ)
-    (ix : x ≡ getD p (f * 3 + (c % 3 + 2) % 3) 0) (iy : y ≡ getD p (f * 3 + (c % 3 + 1) % 3) 0)
-    (im : m ≡ faceNew binary32 (vertexAt v x .point) (vertexAt v y .point) (vertexAt v (u .point) .point))
-    (il : a1 ≡ set a (f * 3 + (c % 3 + 1) % 3) (run .faces)) where
-  pub grow-refused : rooms .faces ≤ run .faces → GrowsAt rooms run u f c v p a n d hf hk p a1 n d hf hk (Ended (NoRoom FaceStore) run)
+-- ---- one new face
+
+abbrev three : ℕ → ℕ → ℕ → Three
+three i j k = record { a = i; b = j; c = k }
+
+-- the face m between the new vertex and an edge of the face f is linked, and pushed or refused with the answer r; the key is left
+pub record FacePushed (rooms : Rooms) (run : Run) (u : Turn) (f c : ℕ) (v : List Float) (p a : List ℕ) (n : List Float) (d hf : List ℕ) (hk : List Float)
+    (m : Made) (p' a' : List ℕ) (n' : List Float) (d' : List ℕ) (r : Step) : Type 0 where
+  pub goesOn : (supp : Vec3 → Vertex) (ef ec : List ℕ)
+      → next (stepOut (λ x. stateOf v p' a' n' d' ef ec hf hk x) r) (λ _. doIf (m .holds) (queueNew (worldOf binary32 supp) (heapRoom rooms hf hk) u (run .faces)))
+      ≡ growAt (worldOf binary32 supp) (heapRoom rooms hf hk) u f c (stateOf v p a n d ef ec hf hk run)
+
+module _ {rooms : Rooms} {run : Run} {u : Turn} {f c : ℕ} {v : List Float} {p a : List ℕ} {n : List Float} {d hf : List ℕ} {hk : List Float}
+    {m : Made} {p' a' : List ℕ} {n' : List Float} {d' : List ℕ} {r : Step} where
+  -- the edge's vertices are x and y. The code's neighbours j and k are the definition's where there is room for a face; where there is none they are not looked at
+  pub face-pushed : {x y j k : ℕ} {a1 : List ℕ} → x ≡ getD p (f * 3 + (c % 3 + 2) % 3) 0 → y ≡ getD p (f * 3 + (c % 3 + 1) % 3) 0
+      → m ≡ faceNew binary32 (vertexAt v x .point) (vertexAt v y .point) (vertexAt v (u .point) .point)
+      → a1 ≡ set a (f * 3 + (c % 3 + 1) % 3) (run .faces)
+      → (run .faces < rooms .faces → j ≡ run .faces + 1) → k ≡ run .faces - 1
+      → PushesFace rooms run (three x y (u .point)) (three f j k) m p a1 n d p' a' n' d' r
+      → FacePushed rooms run u f c v p a n d hf hk m p' a' n' d' r
   unfolding growAt link pushFace _>>=_ _>>_ look put stopIf
-  grow-refused l supp ef ec = rw (il, next-one c, le-leb (rooms .faces) (run .faces) l)
+  face-pushed {x} {y} {j} {k} {a1} ix iy im il ij ik g = record { goesOn = λ supp ef ec. by supp ef ec (leb (rooms .faces) (run .faces)) refl }
+    where
+      by : (supp : Vec3 → Vertex) (ef ec : List ℕ) (b : Bool) → leb (rooms .faces) (run .faces) ≡ b
+          → next (stepOut (λ x. stateOf v p' a' n' d' ef ec hf hk x) r) (λ _. doIf (m .holds) (queueNew (worldOf binary32 supp) (heapRoom rooms hf hk) u (run .faces)))
+          ≡ growAt (worldOf binary32 supp) (heapRoom rooms hf hk) u f c (stateOf v p a n d ef ec hf hk run)
+      by supp ef ec true t = rw (← next-one c, ← next-two c, ← ix, ← iy, ← im, ← il, t, rw t at (g v ef ec hf hk))
+      by supp ef ec false t = rw (← next-one c, ← next-two c, ← ix, ← iy, ← im, ← il, rw (ij (leb-false _ _ t), ik) at (g v ef ec hf hk))
 
-  abbrev x0 : ℕ
-  x0 = getD p (f * 3 + (c + 2) % 3) 0
+  module _ (h : FacePushed rooms run u f c v p a n d hf hk m p' a' n' d' r) {x : Run} where
+    pub grow-refused : {e : End} → r ≡ Ended e x → GrowsAt rooms run u f c v p a n d hf hk p' a' n' d' hf hk r
+    grow-refused t supp ef ec = rw t (rw t at (h .goesOn supp ef ec))
 
-  abbrev y0 : ℕ
-  y0 = getD p (f * 3 + (c + 1) % 3) 0
-
-  abbrev m0 : Made
-  m0 = faceNew binary32 (vertexAt v x0 .point) (vertexAt v y0 .point) (vertexAt v (u .point) .point)
-
-  abbrev more : List ℕ → ℕ → ℕ → Made → Faces
-  more l i j k = oneMore (facesOf p l n d (run .faces)) (threeN i j (u .point)) (threeN f (run .faces + 1) (run .faces - 1)) k
-
-  made-is : m ≡ m0
-  made-is =
-      let ex : x ≡ x0 = ix ∙ ap (λ (k : ℕ). getD p (f * 3 + k) 0) (next-two c) in
-      let ey : y ≡ y0 = iy ∙ ap (λ (k : ℕ). getD p (f * 3 + k) 0) (next-one c) in
-      im ∙ rw (ex, ey)
-
-  more-is : more a1 x y m ≡ more (set a (f * 3 + (c + 1) % 3) (run .faces)) x0 y0 m0
-  more-is =
-      let ex : x ≡ x0 = ix ∙ ap (λ (k : ℕ). getD p (f * 3 + k) 0) (next-two c) in
-      let ey : y ≡ y0 = iy ∙ ap (λ (k : ℕ). getD p (f * 3 + k) 0) (next-one c) in
-      let el : a1 ≡ set a (f * 3 + (c + 1) % 3) (run .faces) = il ∙ ap (λ (k : ℕ). set a (f * 3 + k) (run .faces)) (next-one c) in
-      rw (el, made-is, ex, ey)
-
-  abbrev oneFace : Run
-  oneFace = record { vertices = run .vertices; faces = run .faces + 1; edges = run .edges; heap = run .heap; done = run .done; most = run .most }
-
-  module _ (p' a' : List ℕ) (n' : List Float) (d' : List ℕ) (free : run .faces < rooms .faces) (e : facesOf p' a' n' d' (run .faces + 1) ≡ more a1 x y m) where
-    grown-to : (supp : _) (ef ec : List ℕ) → growAt (worldOf binary32 supp) (heapRoom rooms hf hk) u f c (stateOf v p a n d ef ec hf hk run) ≡ doIf (m .holds) (queueNew (worldOf binary32 supp) (heapRoom rooms hf hk) u (run .faces)) (stateOf v p' a' n' d' ef ec hf hk oneFace)
-    unfolding growAt link pushFace _>>=_ _>>_ look put stopIf
-    grown-to supp ef ec =
-        rw (lt-leb (rooms .faces) (run .faces) free)
-        (ap (λ (k : Faces). doIf (m0 .holds) (queueNew (worldOf binary32 supp) (heapRoom rooms hf hk) u (run .faces)) (withFaces (stateOf v p a n d ef ec hf hk run) k)) (sym (e ∙ more-is))
-        ∙ ap (λ (k : Made). doIf (k .holds) (queueNew (worldOf binary32 supp) (heapRoom rooms hf hk) u (run .faces)) (stateOf v p' a' n' d' ef ec hf hk oneFace)) (sym made-is))
-
-    pub grow-plain : m .holds ≡ false → GrowsAt rooms run u f c v p a n d hf hk p' a' n' d' hf hk (Onward oneFace)
+    pub grow-plain : r ≡ Onward x → m .holds ≡ false → GrowsAt rooms run u f c v p a n d hf hk p' a' n' d' hf hk (Onward x)
     unfolding doIf
-    grow-plain h supp ef ec = rw (grown-to supp ef ec, h)
+    grow-plain t q supp ef ec = rw (t, q) at (h .goesOn supp ef ec)
 
-    pub grow-queued : (hf' : List ℕ) (hk' : List Float) (r : Step) → m .holds ≡ true → QueuesNew rooms oneFace u (run .faces) v p' n' hf hk hf' hk' r → GrowsAt rooms run u f c v p a n d hf hk p' a' n' d' hf' hk' r
+    pub grow-queued : (hf' : List ℕ) (hk' : List Float) (r' : Step) → r ≡ Onward x → m .holds ≡ true → QueuesNew rooms x u (run .faces) v p' n' hf hk hf' hk' r'
+        → GrowsAt rooms run u f c v p a n d hf hk p' a' n' d' hf' hk' r'
     unfolding doIf
-    grow-queued hf' hk' r h q supp ef ec = rw (grown-to supp ef ec, h) (q supp a' d' ef ec)
+    grow-queued hf' hk' r' t q g supp ef ec = g supp a' d' ef ec ∙ (rw (t, q) at (h .goesOn supp ef ec))
 
--- an edge's face is live, or not
+-- ---- an edge's face is live, or not
 module _ (rooms : Rooms) (run : Run) (u : Turn) (i : ℕ) (v : List Float) (ef ec p a : List ℕ) (n : List Float) (d hf : List ℕ) (hk : List Float) where
   pub grow-dead : (f k : ℕ) → f ≡ getD ef i 0 → k ≡ getD d f 1 → (k ≡ 0 → ⊥) → Grows rooms run u i v ef ec p a n d hf hk p a n d hf hk (Onward run)
   unfolding grow doIf _>>=_ look

@@ -13,7 +13,7 @@ use polytope::Three;
 use polytope::Turn;
 use polytope::WalkAnswer;
 use pushes::made_of;
-use pushes::put_face;
+use pushes::push_face;
 use pushes::queue_face;
 use silhouette::answer_of;
 use silhouette::at;
@@ -83,18 +83,17 @@ fn grow_at(
     let point = turn.point;
     let made = made_of(vertices, a, b, point);
     set_three_at(adj, face, side, new_face_id);
-    if rooms.faces <= new_face_id {
-        return Step::Ended(End::NoRoom(Store::Faces), run);
-    }
     let corners = Three { a, b, c: point };
+    // the sum wraps only where there is no room for the face
     let neighbours = Three {
         a: face,
-        b: new_face_id + 1,
+        b: std::num::wrapping_add_usize(new_face_id, 1),
         c: before(new_face_id),
     };
-    put_face(pts, adj, nums, dead, new_face_id, corners, neighbours, made);
-    let mut next = run;
-    next.faces = new_face_id + 1;
+    let pushed = push_face(pts, adj, nums, dead, rooms, run, corners, neighbours, made);
+    let Step::Onward(next) = pushed else {
+        return pushed;
+    };
     if made.holds {
         return queue_new(
             vertices,
