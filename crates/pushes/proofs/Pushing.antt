@@ -26,6 +26,7 @@ use Rattle.polytope.specs.declared.types.Step.the-variants.{Onward, Ended}
 use Rattle.polytope.specs.Polytope.{State, Faces, Out, Nil, onward, ended, stateOf, withFaces, withQueue, putVertex, oneMore, pushVertex, pushFace, queueFace, stopIf, put, look, _>>=_, _>>_}
 use Rattle.polytope.proofs.Ways.{pushed-count}
 use Rattle.pushes.specs.declared.types.FaceId.{FaceId}
+use Rattle.pushes.specs.declared.types.MaybeFaceId.{MaybeFaceId}
 use Rattle.pushes.specs.declared.types.MaybeFaceId.the-variants as MaybeFace
 use Rattle.pushes.specs.Contracts.{facesOf, listOf, faceIdNew, heapRoom, PushesVertex, PushesFace, QueuesFace}
 
@@ -50,12 +51,13 @@ vertex-written rooms run x v v' l e p a n d ef ec hf hk = rw (lt-leb (rooms .ver
 -- ---- a face
 
 -- three places of a record, as the code writes them
-pub three-written : (l : List ℕ) (n a b c : ℕ) → set (set (set l (n * 3 + 0) a) (n * 3 + 1) b) (n * 3 + 2) c ≡ sets l (n * 3) (a ∷ b ∷ c ∷ [])
-three-written l n a b c =
+pub three-written : (l : List ℕ) (n a b c : ℕ) {l1 l2 l3 : List ℕ} → l1 ≡ set l (n * 3 + 0) a → l2 ≡ set l1 (n * 3 + 1) b → l3 ≡ set l2 (n * 3 + 2) c
+    → l3 ≡ sets l (n * 3) (a ∷ b ∷ c ∷ [])
+three-written l n a b c i1 i2 i3 =
     let e0 : n * 3 + 0 ≡ n * 3 = omega arith in
     let e1 : n * 3 + 1 ≡ suc (n * 3) = omega arith in
     let e2 : n * 3 + 2 ≡ suc (suc (n * 3)) = omega arith in
-    rw (e0, e1, e2)
+    i3 ∙ rw (i2, i1, e0, e1, e2)
 
 pub face-refused : (rooms : Rooms) (run : Run) (ps ns : Three) (m : Made) (p a : List ℕ) (n : List Float) (d : List ℕ) → rooms .faces ≤ run .faces
     → PushesFace rooms run ps ns m p a n d p a n d (Ended (NoRoom FaceStore) run)
@@ -99,11 +101,19 @@ pub key-refused : (rooms : Rooms) (run : Run) (why : Lost) (tol : Float) (i : �
 unfolding queueFace _>>=_ _>>_ look stopIf put
 key-refused rooms run why tol i key hf hk e v p a n d ef ec = rw e
 
+-- the key is accepted as the face x, and `heap::push` answers o
 module _ (rooms : Rooms) (run : Run) (why : Lost) (tol : Float) (i : ℕ) (key : Float) (hf : List ℕ) (hk : List Float) (hf' : List ℕ) (hk' : List Float)
-    (ok : lt tol key ≡ false) where
-  pub heap-refused : after hf' hk' Push.NoRoom ≡ pushOf (heap hf hk (run .heap)) (entry i key) → QueuesFace rooms run why tol i key hf hk hf' hk' (Ended (NoRoom HeapStore) run)
+    {w : MaybeFaceId} {x : FaceId} {o : Pushed} (is : w ≡ faceIdNew i key tol) (some : w ≡ MaybeFace.Some x)
+    (does : after hf' hk' o ≡ pushOf (heap hf hk (run .heap)) (entry (x .id) (x .«neg_dist»))) where
+  ok : (lt tol key ≡ false) × (x ≡ record { id = i; «neg_dist» = key })
+  ok = accepted i key tol x (sym some ∙ is)
+
+  does-so : {y : Pushed} → o ≡ y → after hf' hk' y ≡ pushOf (heap hf hk (run .heap)) (entry i key)
+  does-so t = rw (ok .1, t) at does
+
+  pub heap-refused : o ≡ Push.NoRoom → QueuesFace rooms run why tol i key hf hk hf' hk' (Ended (NoRoom HeapStore) run)
   unfolding pushOf queueFace _>>=_ _>>_ look stopIf put
-  heap-refused e v p a n d ef ec = by (ltb (run .heap) (min (length hf) (length hk))) refl e
+  heap-refused t v p a n d ef ec = by (ltb (run .heap) (min (length hf) (length hk))) refl (does-so t)
     where
       by : (b : Bool) → ltb (run .heap) (min (length hf) (length hk)) ≡ b
           → after hf' hk' Push.NoRoom ≡ cond b (leaves (pushed (heap hf hk (run .heap)) (entry i key)) (Push.Done (run .heap + 1))) (leaves (heap hf hk (run .heap)) Push.NoRoom)
@@ -113,12 +123,12 @@ module _ (rooms : Rooms) (run : Run) (why : Lost) (tol : Float) (i : ℕ) (key :
           let full : min (length hf) (length hk) ≤ run .heap = omega (arith, ltb-false (run .heap) (min (length hf) (length hk)) q) in
           let e1 : hf' ≡ hf = ap (λ (x : After Pushed). x .faces) z in
           let e2 : hk' ≡ hk = ap (λ (x : After Pushed). x .keys) z in
-          rw (ok, le-leb (min (length hf) (length hk)) (run .heap) full, e1, e2)
+          rw (ok .0, le-leb (min (length hf) (length hk)) (run .heap) full, e1, e2)
 
-  pub key-queued : (k : ℕ) → after hf' hk' (Push.Done k) ≡ pushOf (heap hf hk (run .heap)) (entry i key)
+  pub key-queued : {k : ℕ} → o ≡ Push.Done k
       → QueuesFace rooms run why tol i key hf hk hf' hk' (Onward (record { vertices = run .vertices; faces = run .faces; edges = run .edges; heap = k; done = run .done; most = run .most }))
   unfolding pushOf queueFace _>>=_ _>>_ look stopIf put
-  key-queued k e v p a n d ef ec = by (ltb (run .heap) (min (length hf) (length hk))) refl e
+  key-queued {k} t v p a n d ef ec = by (ltb (run .heap) (min (length hf) (length hk))) refl (does-so t)
     where
       h0 : Heap
       h0 = heap hf hk (run .heap)
@@ -133,5 +143,5 @@ module _ (rooms : Rooms) (run : Run) (why : Lost) (tol : Float) (i : ℕ) (key :
           let done : Push.Done k ≡ Push.Done (run .heap + 1) = ap (λ (x : After Pushed). x .answer) z in
           let e3 : k ≡ run .heap + 1 = same-count done in
           let e4 : heap hf' hk' k ≡ pushed h0 (entry i key) = rw (e1, e2, e3 ∙ sym (pushed-count h0 (entry i key))) in
-          rw (ok, lt-leb (min (length hf) (length hk)) (run .heap) free) (ap (λ (h : Heap). goOn (withQueue (stateOf v p a n d ef ec hf hk run) h)) e4)
+          rw (ok .0, lt-leb (min (length hf) (length hk)) (run .heap) free) (ap (λ (h : Heap). goOn (withQueue (stateOf v p a n d ef ec hf hk run) h)) e4)
       by false q z = absurd (unlike (sym (ap (λ (x : After Pushed). x .answer) z)))

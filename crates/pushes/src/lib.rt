@@ -7,7 +7,6 @@ pub use pushes::face_id_new;
 pub use pushes::made_of;
 pub use pushes::push_face;
 pub use pushes::push_vertex;
-pub use pushes::put_face;
 pub use pushes::queue_face;
 pub use types::FaceId;
 pub use types::MaybeFaceId;

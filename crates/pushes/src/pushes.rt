@@ -57,7 +57,7 @@ fn put_three(l: &mut [usize], n: usize, t: Three)
 }
 
 // A live face is written at the place n.
-pub fn put_face(
+fn put_face(
     pts: &mut [usize],
     adj: &mut [usize],
     nums: &mut [f32],
