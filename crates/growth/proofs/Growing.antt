@@ -1,5 +1,5 @@
 -- A new face, told of the lists and the answer that the code leaves. Assumes nothing.
-use mathlib.Core.Path.{_≡_, refl, sym, ap, subst, _∙_}
+use mathlib.Core.Path.{_≡_, refl, ap, _∙_}
 use mathlib.Core.Bool.{Bool, true, false}
 use mathlib.Core.List.{List}
 use Prim.Native.Nat.{ℕ, _+_, _-_, _*_, _%_, _<_, _≤_, suc}
@@ -19,7 +19,7 @@ use Rattle.polytope.specs.declared.types.End.{End}
 use Rattle.polytope.specs.declared.types.Step.{Step}
 use Rattle.polytope.specs.declared.types.Step.the-variants.{Onward, Ended}
 use Rattle.polytope.specs.Face.{faceNew}
-use Rattle.polytope.specs.Polytope.{Out, Nil, stateOf, worldOf, vertexAt, threeN, queueNew, link, pushFace, growAt, grow, growAll, ok, stepOut, stopIf, doIf, next, put, look, _>>=_, _>>_}
+use Rattle.polytope.specs.Polytope.{Out, Nil, stateOf, worldOf, vertexAt, queueNew, link, pushFace, growAt, grow, growAll, ok, stepOut, stopIf, doIf, next, put, look, _>>=_, _>>_}
 use Rattle.polytope.proofs.Lists.{next-one, next-two}
 use Rattle.pushes.specs.Contracts.{heapRoom, PushesFace}
 use Rattle.growth.specs.Contracts.{QueuesNew, GrowsAt, Grows, GrowsAll}
@@ -68,17 +68,17 @@ module _ {rooms : Rooms} {run : Run} {u : Turn} {f c : ℕ} {v : List Float} {p 
     grow-queued hf' hk' r' t q g supp ef ec = g supp a' d' ef ec ∙ (rw (t, q) at (h .goesOn supp ef ec))
 
 -- ---- an edge's face is live, or not
-module _ (rooms : Rooms) (run : Run) (u : Turn) (i : ℕ) (v : List Float) (ef ec p a : List ℕ) (n : List Float) (d hf : List ℕ) (hk : List Float) where
-  pub grow-dead : (f k : ℕ) → f ≡ getD ef i 0 → k ≡ getD d f 1 → (k ≡ 0 → ⊥) → Grows rooms run u i v ef ec p a n d hf hk p a n d hf hk (Onward run)
-  unfolding grow doIf _>>=_ look
-  grow-dead f k e e1 z supp = rw (ne-eqb (getD d (getD ef i 0) 1) 0 (λ o. z (e1 ∙ ap (λ (j : ℕ). getD d j 1) e ∙ o)))
 
-  pub grow-live : (f c k : ℕ) (p' a' : List ℕ) (n' : List Float) (d' hf' : List ℕ) (hk' : List Float) (r : Step) → f ≡ getD ef i 0 → c ≡ getD ec i 0 → k ≡ getD d f 1 → k ≡ 0
+module _ (rooms : Rooms) (run : Run) (u : Turn) (i : ℕ) (v : List Float) (ef ec p a : List ℕ) (n : List Float) (d hf : List ℕ) (hk : List Float)
+    {f k : ℕ} (isFace : f ≡ getD ef i 0) (isDead : k ≡ getD d f 1) where
+  pub grow-dead : (k ≡ 0 → ⊥) → Grows rooms run u i v ef ec p a n d hf hk p a n d hf hk (Onward run)
+  unfolding grow doIf _>>=_ look
+  grow-dead z supp = rw (← isFace, ← isDead, ne-eqb k 0 z)
+
+  pub grow-live : k ≡ 0 → {c : ℕ} → c ≡ getD ec i 0 → (p' a' : List ℕ) (n' : List Float) (d' hf' : List ℕ) (hk' : List Float) (r : Step)
       → GrowsAt rooms run u f c v p a n d hf hk p' a' n' d' hf' hk' r → Grows rooms run u i v ef ec p a n d hf hk p' a' n' d' hf' hk' r
   unfolding grow doIf _>>=_ look
-  grow-live f c k p' a' n' d' hf' hk' r e ecc e1 z g supp =
-      let live : getD d (getD ef i 0) 1 ≡ 0 = sym (e1 ∙ ap (λ (j : ℕ). getD d j 1) e) ∙ z in
-      rw (eq-eqb (getD d (getD ef i 0) 1) 0 live, ← e, ← ecc) (g supp ef ec)
+  grow-live z isCorner p' a' n' d' hf' hk' r g supp = rw (← isFace, ← isCorner, ← isDead, eq-eqb k 0 z) (g supp ef ec)
 
 -- ---- all edges: the loop's invariant, and its turns
 
@@ -93,43 +93,54 @@ pub record GrowLoop (rooms : Rooms) (u : Turn) (all : ℕ) (v : List Float) (ef 
   pub sameKeys : length hk ≡ length hk0
   pub goesOn : (supp : Vec3 → Vertex) → growAll (worldOf binary32 supp) (heapRoom rooms hf0 hk0) u (all - i) i (stateOf v p a n d ef ec hf hk run) ≡ growAll (worldOf binary32 supp) (heapRoom rooms hf0 hk0) u all 0 (stateOf v p0 a0 n0 d0 ef ec hf0 hk0 run0)
 
-module _ (rooms : Rooms) (u : Turn) (all : ℕ) (v : List Float) (ef ec p0 a0 : List ℕ) (n0 : List Float) (d0 hf0 : List ℕ) (hk0 : List Float) (run0 : Run) where
-  pub loop-starts : GrowLoop rooms u all v ef ec p0 a0 n0 d0 hf0 hk0 run0 p0 a0 n0 d0 hf0 hk0 run0 0
-  loop-starts = record { within = omega arith; samePts = refl; sameAdj = refl; sameNums = refl; sameDead = refl; sameFaces = refl; sameKeys = refl; goesOn = λ supp. let e : all - 0 ≡ all = omega arith in rw e }
+pub loop-starts : (rooms : Rooms) (u : Turn) (all : ℕ) (v : List Float) (ef ec p a : List ℕ) (n : List Float) (d hf : List ℕ) (hk : List Float) (run : Run)
+    → GrowLoop rooms u all v ef ec p a n d hf hk run p a n d hf hk run 0
+loop-starts rooms u all v ef ec p a n d hf hk run = record {
+  within = omega arith;
+  samePts = refl;
+  sameAdj = refl;
+  sameNums = refl;
+  sameDead = refl;
+  sameFaces = refl;
+  sameKeys = refl;
+  goesOn = λ supp. let e : all - 0 ≡ all = omega arith in rw e;
+}
 
-  module _ (p a : List ℕ) (n : List Float) (d hf : List ℕ) (hk : List Float) (run : Run) (i : ℕ) (h : GrowLoop rooms u all v ef ec p0 a0 n0 d0 hf0 hk0 run0 p a n d hf hk run i) where
-    -- the heap's room is what it was
-    one-room : heapRoom rooms hf hk ≡ heapRoom rooms hf0 hk0
-    one-room = rw (h .sameFaces, h .sameKeys)
+module _ {rooms : Rooms} {u : Turn} {all : ℕ} {v : List Float} {ef ec p0 a0 : List ℕ} {n0 : List Float} {d0 hf0 : List ℕ} {hk0 : List Float} {run0 : Run}
+    {p a : List ℕ} {n : List Float} {d hf : List ℕ} {hk : List Float} {run : Run} {i : ℕ} (h : GrowLoop rooms u all v ef ec p0 a0 n0 d0 hf0 hk0 run0 p a n d hf hk run i) where
+  -- the heap's room is what it was
+  one-room : heapRoom rooms hf hk ≡ heapRoom rooms hf0 hk0
+  one-room = rw (h .sameFaces, h .sameKeys)
 
-    module _ (p' a' : List ℕ) (n' : List Float) (d' hf' : List ℕ) (hk' : List Float) (r : Step) (more : i < all) (g : Grows rooms run u i v ef ec p a n d hf hk p' a' n' d' hf' hk' r) where
-      one-turn : (supp : Vec3 → Vertex) → next (stepOut (λ x. stateOf v p' a' n' d' ef ec hf' hk' x) r) (λ _. growAll (worldOf binary32 supp) (heapRoom rooms hf0 hk0) u (all - (i + 1)) (i + 1)) ≡ growAll (worldOf binary32 supp) (heapRoom rooms hf0 hk0) u all 0 (stateOf v p0 a0 n0 d0 ef ec hf0 hk0 run0)
-      unfolding growAll _>>_
-      one-turn supp =
-          let e : all - i ≡ suc (all - (i + 1)) = omega arith in
-          let k = subst (λ (j : ℕ). growAll (worldOf binary32 supp) (heapRoom rooms hf0 hk0) u j i (stateOf v p a n d ef ec hf hk run) ≡ growAll (worldOf binary32 supp) (heapRoom rooms hf0 hk0) u all 0 (stateOf v p0 a0 n0 d0 ef ec hf0 hk0 run0)) e (h .goesOn supp) in
-          let g1 = subst (λ (x : Rooms). stepOut (λ c. stateOf v p' a' n' d' ef ec hf' hk' c) r ≡ grow (worldOf binary32 supp) x u i (stateOf v p a n d ef ec hf hk run)) one-room (g supp) in
-          ap (λ (o : Out Nil). next o (λ _. growAll (worldOf binary32 supp) (heapRoom rooms hf0 hk0) u (all - (i + 1)) (i + 1))) g1 ∙ k
+  module _ (p' a' : List ℕ) (n' : List Float) (d' hf' : List ℕ) (hk' : List Float) (r : Step) (more : i < all) (g : Grows rooms run u i v ef ec p a n d hf hk p' a' n' d' hf' hk' r) where
+    one-turn : (supp : Vec3 → Vertex) {y : Step} → r ≡ y
+        → next (stepOut (λ x. stateOf v p' a' n' d' ef ec hf' hk' x) y) (λ _. growAll (worldOf binary32 supp) (heapRoom rooms hf0 hk0) u (all - (i + 1)) (i + 1))
+        ≡ growAll (worldOf binary32 supp) (heapRoom rooms hf0 hk0) u all 0 (stateOf v p0 a0 n0 d0 ef ec hf0 hk0 run0)
+    unfolding growAll _>>_
+    one-turn supp t =
+        let e : all - i ≡ suc (all - (i + 1)) = omega arith in
+        let rest = rw e at (h .goesOn supp) in
+        let g1 = rw (t, one-room) at (g supp) in
+        ap (λ (o : Out Nil). next o (λ _. growAll (worldOf binary32 supp) (heapRoom rooms hf0 hk0) u (all - (i + 1)) (i + 1))) g1 ∙ rest
 
-      pub loop-turns : (x : Run) → r ≡ Onward x → length p' ≡ length p → length a' ≡ length a → length n' ≡ length n → length d' ≡ length d → length hf' ≡ length hf → length hk' ≡ length hk
-          → GrowLoop rooms u all v ef ec p0 a0 n0 d0 hf0 hk0 run0 p' a' n' d' hf' hk' x (i + 1)
-      loop-turns x t kp ka kn kd kf kk = record {
-        within = omega arith;
-        samePts = kp ∙ h .samePts;
-        sameAdj = ka ∙ h .sameAdj;
-        sameNums = kn ∙ h .sameNums;
-        sameDead = kd ∙ h .sameDead;
-        sameFaces = kf ∙ h .sameFaces;
-        sameKeys = kk ∙ h .sameKeys;
-        goesOn = λ supp. subst (λ (s : Step). next (stepOut (λ x. stateOf v p' a' n' d' ef ec hf' hk' x) s) (λ _. growAll (worldOf binary32 supp) (heapRoom rooms hf0 hk0) u (all - (i + 1)) (i + 1)) ≡ growAll (worldOf binary32 supp) (heapRoom rooms hf0 hk0) u all 0 (stateOf v p0 a0 n0 d0 ef ec hf0 hk0 run0)) t (one-turn supp);
-      }
+    pub loop-turns : {x : Run} → r ≡ Onward x → length p' ≡ length p → length a' ≡ length a → length n' ≡ length n → length d' ≡ length d → length hf' ≡ length hf → length hk' ≡ length hk
+        → GrowLoop rooms u all v ef ec p0 a0 n0 d0 hf0 hk0 run0 p' a' n' d' hf' hk' x (i + 1)
+    loop-turns t kp ka kn kd kf kk = record {
+      within = omega arith;
+      samePts = kp ∙ h .samePts;
+      sameAdj = ka ∙ h .sameAdj;
+      sameNums = kn ∙ h .sameNums;
+      sameDead = kd ∙ h .sameDead;
+      sameFaces = kf ∙ h .sameFaces;
+      sameKeys = kk ∙ h .sameKeys;
+      goesOn = λ supp. one-turn supp t;
+    }
 
-      pub loop-ends : (e : _) (x : Run) → r ≡ Ended e x → GrowsAll rooms run0 u all 0 v ef ec p0 a0 n0 d0 hf0 hk0 p' a' n' d' hf' hk' r
-      loop-ends e x t supp =
-          rw t (subst (λ (s : Step). next (stepOut (λ x. stateOf v p' a' n' d' ef ec hf' hk' x) s) (λ _. growAll (worldOf binary32 supp) (heapRoom rooms hf0 hk0) u (all - (i + 1)) (i + 1)) ≡ growAll (worldOf binary32 supp) (heapRoom rooms hf0 hk0) u all 0 (stateOf v p0 a0 n0 d0 ef ec hf0 hk0 run0)) t (one-turn supp))
+    pub loop-ends : {e : End} {x : Run} → r ≡ Ended e x → GrowsAll rooms run0 u all 0 v ef ec p0 a0 n0 d0 hf0 hk0 p' a' n' d' hf' hk' r
+    loop-ends t supp = rw t (one-turn supp t)
 
-    pub loop-done : all ≤ i → GrowsAll rooms run0 u all 0 v ef ec p0 a0 n0 d0 hf0 hk0 p a n d hf hk (Onward run)
-    unfolding growAll ok
-    loop-done l supp =
-        let e : all - i ≡ 0 = omega arith in
-        subst (λ (j : ℕ). growAll (worldOf binary32 supp) (heapRoom rooms hf0 hk0) u j i (stateOf v p a n d ef ec hf hk run) ≡ growAll (worldOf binary32 supp) (heapRoom rooms hf0 hk0) u all 0 (stateOf v p0 a0 n0 d0 ef ec hf0 hk0 run0)) e (h .goesOn supp)
+  pub loop-done : all ≤ i → GrowsAll rooms run0 u all 0 v ef ec p0 a0 n0 d0 hf0 hk0 p a n d hf hk (Onward run)
+  unfolding growAll ok
+  loop-done l supp =
+      let e : all - i ≡ 0 = omega arith in
+      rw e at (h .goesOn supp)

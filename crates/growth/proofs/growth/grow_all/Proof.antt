@@ -14,65 +14,57 @@ Inv-loop vertices pts₀ adj₀ nums₀ dead₀ edge-face edge-corner heap-face�
 abbrev μ-loop : tie.MeasureT-loop
 μ-loop vertices pts₀ adj₀ nums₀ dead₀ edge-face edge-corner heap-face₀ heap-key₀ rooms turn edges run₀ i₀ pts adj nums dead heap-face heap-key run i = edges - i
 
+-- where `grow` has returned, from where it ends the run and from where its answer is to go on; and the turn that called it
+abbrev ended : tie.After-enum-told Inv-loop μ-loop → tie.After-grow Inv-loop μ-loop
+ended c = c .before .before .before .before .before .before .before .before .before .before .before .before .before .before
+
+abbrev onward : tie.After-known-told Inv-loop μ-loop → tie.After-grow Inv-loop μ-loop
+onward c = c .before .before .before .before .before .before .before .before .before .before .before .before .before .before .before
+
+abbrev turn : tie.After-grow Inv-loop μ-loop → tie.In-loop Inv-loop μ-loop
+turn c = c .before .before .before .before .before .before .before
+
 loop-holds : tie.Need-loop-holds Inv-loop μ-loop
-loop-holds c = loop-starts (c .before .before .before .before .before .before .before .before .before .args .rooms) (c .before .before .before .before .before .before .before .before .before .args .turn) (c .before .before .before .before .before .before .before .before .before .args .edges) (c .before .before .before .before .before .before .before .before .before .args .vertices .now) (c .before .before .before .before .before .before .before .before .before .args .edge-face .now) (c .before .before .before .before .before .before .before .before .before .args .edge-corner .now) (c .before .before .before .before .before .before .before .before .before .args .pts .now) (c .before .before .before .before .before .before .before .before .before .args .adj .now) (c .before .before .before .before .before .before .before .before .before .args .nums .now) (c .before .before .before .before .before .before .before .before .before .args .dead .now) (c .before .before .before .before .before .before .before .before .before .args .heap-face .now) (c .before .before .before .before .before .before .before .before .before .args .heap-key .now) (c .before .before .before .before .before .before .before .before .before .args .start)
-
-enum-known-grown : tie.Need-enum-known-grown Inv-loop μ-loop
-enum-known-grown c = search needs
-
-enum-told : tie.Need-enum-told Inv-loop μ-loop
-enum-told c = search needs
-
-same-length : tie.Need-same-length Inv-loop μ-loop
-same-length c = c .before .before .before .before .before .before .before .before .before .before .before .before .before .before .grow .kept .1 .0 ∙ c .before .before .before .before .before .before .before .before .before .before .before .before .before .before .before .before .before .before .before .before .before .before .loop .inv .samePts
-
-same-length-2 : tie.Need-same-length-2 Inv-loop μ-loop
-same-length-2 c = c .before .before .before .before .before .before .before .before .before .before .before .before .before .before .grow .kept .1 .1 .0 ∙ c .before .before .before .before .before .before .before .before .before .before .before .before .before .before .before .before .before .before .before .before .before .before .loop .inv .sameAdj
-
-same-length-3 : tie.Need-same-length-3 Inv-loop μ-loop
-same-length-3 c = c .before .before .before .before .before .before .before .before .before .before .before .before .before .before .grow .kept .1 .1 .1 .0 ∙ c .before .before .before .before .before .before .before .before .before .before .before .before .before .before .before .before .before .before .before .before .before .before .loop .inv .sameNums
-
-same-length-4 : tie.Need-same-length-4 Inv-loop μ-loop
-same-length-4 c = c .before .before .before .before .before .before .before .before .before .before .before .before .before .before .grow .kept .1 .1 .1 .1 .0 ∙ c .before .before .before .before .before .before .before .before .before .before .before .before .before .before .before .before .before .before .before .before .before .before .loop .inv .sameDead
-
-same-length-5 : tie.Need-same-length-5 Inv-loop μ-loop
-same-length-5 c = c .before .before .before .before .before .before .before .before .before .before .before .before .before .before .grow .kept .1 .1 .1 .1 .1 .1 .1 .0 ∙ c .before .before .before .before .before .before .before .before .before .before .before .before .before .before .before .before .before .before .before .before .before .before .loop .inv .sameFaces
-
-same-length-6 : tie.Need-same-length-6 Inv-loop μ-loop
-same-length-6 c = c .before .before .before .before .before .before .before .before .before .before .before .before .before .before .grow .kept .1 .1 .1 .1 .1 .1 .1 .1 .0 ∙ c .before .before .before .before .before .before .before .before .before .before .before .before .before .before .before .before .before .before .before .before .before .before .loop .inv .sameKeys
+loop-holds c =
+    let a = c .before .before .before .before .before .before .before .before .before .args in
+    loop-starts (a .rooms) (a .turn) (a .edges) (a .vertices .now) (a .edge-face .now) (a .edge-corner .now) (a .pts .now) (a .adj .now) (a .nums .now) (a .dead .now) (a .heap-face .now) (a .heap-key .now) (a .start)
 
 returns : tie.Need-returns Inv-loop μ-loop
-returns c = loop-ends (c .before .before .before .before .before .before .before .before .before .before .before .before .before .before .before .before .before .before .before .before .before .before .before .before .before .before .before .before .before .before .before .before .args .rooms) (c .before .before .before .before .before .before .before .before .before .before .before .before .before .before .before .before .before .before .before .before .before .before .before .before .before .before .before .before .before .before .before .before .args .turn) (c .before .before .before .before .before .before .before .before .before .before .before .before .before .before .before .before .before .before .before .before .before .before .before .before .before .before .before .before .before .before .before .before .args .edges) (c .before .before .before .before .before .before .before .before .before .before .before .before .before .before .before .before .before .before .before .before .before .before .before .before .before .before .before .before .before .before .before .before .args .vertices .now) (c .before .before .before .before .before .before .before .before .before .before .before .before .before .before .before .before .before .before .before .before .before .before .before .before .before .before .before .before .before .before .before .before .args .edge-face .now) (c .before .before .before .before .before .before .before .before .before .before .before .before .before .before .before .before .before .before .before .before .before .before .before .before .before .before .before .before .before .before .before .before .args .edge-corner .now) (c .before .before .before .before .before .before .before .before .before .before .before .before .before .before .before .before .before .before .before .before .before .before .before .before .before .before .before .before .before .before .before .before .args .pts .now) (c .before .before .before .before .before .before .before .before .before .before .before .before .before .before .before .before .before .before .before .before .before .before .before .before .before .before .before .before .before .before .before .before .args .adj .now) (c .before .before .before .before .before .before .before .before .before .before .before .before .before .before .before .before .before .before .before .before .before .before .before .before .before .before .before .before .before .before .before .before .args .nums .now) (c .before .before .before .before .before .before .before .before .before .before .before .before .before .before .before .before .before .before .before .before .before .before .before .before .before .before .before .before .before .before .before .before .args .dead .now) (c .before .before .before .before .before .before .before .before .before .before .before .before .before .before .before .before .before .before .before .before .before .before .before .before .before .before .before .before .before .before .before .before .args .heap-face .now) (c .before .before .before .before .before .before .before .before .before .before .before .before .before .before .before .before .before .before .before .before .before .before .before .before .before .before .before .before .before .before .before .before .args .heap-key .now) (c .before .before .before .before .before .before .before .before .before .before .before .before .before .before .before .before .before .before .before .before .before .before .before .before .before .before .before .before .before .before .before .before .args .start) (c .before .before .before .before .before .before .before .before .before .before .before .before .before .before .before .before .before .before .before .before .before .before .loop .pts) (c .before .before .before .before .before .before .before .before .before .before .before .before .before .before .before .before .before .before .before .before .before .before .loop .adj) (c .before .before .before .before .before .before .before .before .before .before .before .before .before .before .before .before .before .before .before .before .before .before .loop .nums) (c .before .before .before .before .before .before .before .before .before .before .before .before .before .before .before .before .before .before .before .before .before .before .loop .dead) (c .before .before .before .before .before .before .before .before .before .before .before .before .before .before .before .before .before .before .before .before .before .before .loop .heap-face) (c .before .before .before .before .before .before .before .before .before .before .before .before .before .before .before .before .before .before .before .before .before .before .loop .heap-key) (c .before .before .before .before .before .before .before .before .before .before .before .before .before .before .before .before .before .before .before .before .before .before .loop .run) (c .before .before .before .before .before .before .before .before .before .before .before .before .before .before .before .before .before .before .before .before .before .before .loop .i) (c .before .before .before .before .before .before .before .before .before .before .before .before .before .before .before .before .before .before .before .before .before .before .loop .inv) (c .before .before .before .before .before .before .before .before .before .before .before .before .before .before .grow .last .1 .0) (c .before .before .before .before .before .before .before .before .before .before .before .before .before .before .grow .last .1 .1 .0) (c .before .before .before .before .before .before .before .before .before .before .before .before .before .before .grow .last .1 .1 .1 .0) (c .before .before .before .before .before .before .before .before .before .before .before .before .before .before .grow .last .1 .1 .1 .1 .0) (c .before .before .before .before .before .before .before .before .before .before .before .before .before .before .grow .last .1 .1 .1 .1 .1 .1 .1 .0) (c .before .before .before .before .before .before .before .before .before .before .before .before .before .before .grow .last .1 .1 .1 .1 .1 .1 .1 .1 .0) (c .before .before .before .before .before .before .before .before .before .before .before .before .before .before .grow .result) (c .before .before .before .before .before .before .before .before .before .before .before .before .before .before .before .before .before .before .before .before .before .loop-test .taken) (c .before .before .before .before .before .before .before .before .before .before .before .before .before .before .grow .ensures) _ _ (c .enum-told .given .1)
+returns c =
+    let at-grow = ended c in
+    let l = at-grow .grow .last .1 in
+    let heap = l .1 .1 .1 .1 .1 .1 in
+    loop-ends (turn at-grow .before .loop .inv) (l .0) (l .1 .0) (l .1 .1 .0) (l .1 .1 .1 .0) (heap .0) (heap .1 .0) (at-grow .grow .result)
+    (turn at-grow .loop-test .taken) (at-grow .grow .ensures) (c .enum-told .given .1)
 
 add-i : tie.Need-add-i Inv-loop μ-loop
-add-i c = omega (arith, c .before .before .before .before .before .before .before .before .before .before .before .before .before .before .before .before .before .before .before .before .before .before .loop-test .taken, c .before .before .before .before .before .before .before .before .before .before .before .before .before .before .before .before .before .before .before .before .before .before .before .before .before .before .before .before .before .before .before .before .before .fits .edges)
+add-i c = let at-turn = turn (onward c) in omega (arith, at-turn .loop-test .taken, at-turn .before .before .before .before .before .before .before .before .before .before .before .fits .edges)
 
 loop-less : tie.Need-loop-less Inv-loop μ-loop
-loop-less c = omega (arith, c .before .before .before .before .before .before .before .before .before .before .before .before .before .before .before .before .before .before .before .before .before .before .before .loop .inv .within)
+loop-less c = omega (arith, turn (onward c) .before .loop .inv .within)
 
 loop-again : tie.Need-loop-again Inv-loop μ-loop
-loop-again c = loop-turns (c .before .before .before .before .before .before .before .before .before .before .before .before .before .before .before .before .before .before .before .before .before .before .before .before .before .before .before .before .before .before .before .before .before .args .rooms) (c .before .before .before .before .before .before .before .before .before .before .before .before .before .before .before .before .before .before .before .before .before .before .before .before .before .before .before .before .before .before .before .before .before .args .turn) (c .before .before .before .before .before .before .before .before .before .before .before .before .before .before .before .before .before .before .before .before .before .before .before .before .before .before .before .before .before .before .before .before .before .args .edges) (c .before .before .before .before .before .before .before .before .before .before .before .before .before .before .before .before .before .before .before .before .before .before .before .before .before .before .before .before .before .before .before .before .before .args .vertices .now) (c .before .before .before .before .before .before .before .before .before .before .before .before .before .before .before .before .before .before .before .before .before .before .before .before .before .before .before .before .before .before .before .before .before .args .edge-face .now) (c .before .before .before .before .before .before .before .before .before .before .before .before .before .before .before .before .before .before .before .before .before .before .before .before .before .before .before .before .before .before .before .before .before .args .edge-corner .now) (c .before .before .before .before .before .before .before .before .before .before .before .before .before .before .before .before .before .before .before .before .before .before .before .before .before .before .before .before .before .before .before .before .before .args .pts .now) (c .before .before .before .before .before .before .before .before .before .before .before .before .before .before .before .before .before .before .before .before .before .before .before .before .before .before .before .before .before .before .before .before .before .args .adj .now) (c .before .before .before .before .before .before .before .before .before .before .before .before .before .before .before .before .before .before .before .before .before .before .before .before .before .before .before .before .before .before .before .before .before .args .nums .now) (c .before .before .before .before .before .before .before .before .before .before .before .before .before .before .before .before .before .before .before .before .before .before .before .before .before .before .before .before .before .before .before .before .before .args .dead .now) (c .before .before .before .before .before .before .before .before .before .before .before .before .before .before .before .before .before .before .before .before .before .before .before .before .before .before .before .before .before .before .before .before .before .args .heap-face .now) (c .before .before .before .before .before .before .before .before .before .before .before .before .before .before .before .before .before .before .before .before .before .before .before .before .before .before .before .before .before .before .before .before .before .args .heap-key .now) (c .before .before .before .before .before .before .before .before .before .before .before .before .before .before .before .before .before .before .before .before .before .before .before .before .before .before .before .before .before .before .before .before .before .args .start) (c .before .before .before .before .before .before .before .before .before .before .before .before .before .before .before .before .before .before .before .before .before .before .before .loop .pts) (c .before .before .before .before .before .before .before .before .before .before .before .before .before .before .before .before .before .before .before .before .before .before .before .loop .adj) (c .before .before .before .before .before .before .before .before .before .before .before .before .before .before .before .before .before .before .before .before .before .before .before .loop .nums) (c .before .before .before .before .before .before .before .before .before .before .before .before .before .before .before .before .before .before .before .before .before .before .before .loop .dead) (c .before .before .before .before .before .before .before .before .before .before .before .before .before .before .before .before .before .before .before .before .before .before .before .loop .heap-face) (c .before .before .before .before .before .before .before .before .before .before .before .before .before .before .before .before .before .before .before .before .before .before .before .loop .heap-key) (c .before .before .before .before .before .before .before .before .before .before .before .before .before .before .before .before .before .before .before .before .before .before .before .loop .run) (c .before .before .before .before .before .before .before .before .before .before .before .before .before .before .before .before .before .before .before .before .before .before .before .loop .i) (c .before .before .before .before .before .before .before .before .before .before .before .before .before .before .before .before .before .before .before .before .before .before .before .loop .inv) (c .before .before .before .before .before .before .before .before .before .before .before .before .before .before .before .grow .last .1 .0) (c .before .before .before .before .before .before .before .before .before .before .before .before .before .before .before .grow .last .1 .1 .0) (c .before .before .before .before .before .before .before .before .before .before .before .before .before .before .before .grow .last .1 .1 .1 .0) (c .before .before .before .before .before .before .before .before .before .before .before .before .before .before .before .grow .last .1 .1 .1 .1 .0) (c .before .before .before .before .before .before .before .before .before .before .before .before .before .before .before .grow .last .1 .1 .1 .1 .1 .1 .1 .0) (c .before .before .before .before .before .before .before .before .before .before .before .before .before .before .before .grow .last .1 .1 .1 .1 .1 .1 .1 .1 .0) (c .before .before .before .before .before .before .before .before .before .before .before .before .before .before .before .grow .result) (c .before .before .before .before .before .before .before .before .before .before .before .before .before .before .before .before .before .before .before .before .before .before .loop-test .taken) (c .before .before .before .before .before .before .before .before .before .before .before .before .before .before .before .grow .ensures) _ (c .before .grown .given .1) (c .before .before .before .before .before .before .before .before .before .before .before .before .before .before .before .grow .kept .1 .0) (c .before .before .before .before .before .before .before .before .before .before .before .before .before .before .before .grow .kept .1 .1 .0) (c .before .before .before .before .before .before .before .before .before .before .before .before .before .before .before .grow .kept .1 .1 .1 .0) (c .before .before .before .before .before .before .before .before .before .before .before .before .before .before .before .grow .kept .1 .1 .1 .1 .0) (c .before .before .before .before .before .before .before .before .before .before .before .before .before .before .before .grow .kept .1 .1 .1 .1 .1 .1 .1 .0) (c .before .before .before .before .before .before .before .before .before .before .before .before .before .before .before .grow .kept .1 .1 .1 .1 .1 .1 .1 .1 .0)
-
-same-length-7 : tie.Need-same-length-7 Inv-loop μ-loop
-same-length-7 c = c .before .loop .inv .samePts
-
-same-length-8 : tie.Need-same-length-8 Inv-loop μ-loop
-same-length-8 c = c .before .loop .inv .sameAdj
-
-same-length-9 : tie.Need-same-length-9 Inv-loop μ-loop
-same-length-9 c = c .before .loop .inv .sameNums
-
-same-length-10 : tie.Need-same-length-10 Inv-loop μ-loop
-same-length-10 c = c .before .loop .inv .sameDead
-
-same-length-11 : tie.Need-same-length-11 Inv-loop μ-loop
-same-length-11 c = c .before .loop .inv .sameFaces
-
-same-length-12 : tie.Need-same-length-12 Inv-loop μ-loop
-same-length-12 c = c .before .loop .inv .sameKeys
+loop-again c =
+    let at-grow = onward c in
+    let l = at-grow .grow .last .1 in
+    let heap = l .1 .1 .1 .1 .1 .1 in
+    let k = at-grow .grow .kept .1 in
+    let kept = k .1 .1 .1 .1 .1 .1 in
+    loop-turns (turn at-grow .before .loop .inv) (l .0) (l .1 .0) (l .1 .1 .0) (l .1 .1 .1 .0) (heap .0) (heap .1 .0) (at-grow .grow .result)
+    (turn at-grow .loop-test .taken) (at-grow .grow .ensures) (c .before .grown .given .1)
+    (k .0) (k .1 .0) (k .1 .1 .0) (k .1 .1 .1 .0) (kept .0) (kept .1 .0)
 
 returns-2 : tie.Need-returns-2 Inv-loop μ-loop
-returns-2 c = loop-done (c .before .before .before .before .before .before .before .before .before .before .before .args .rooms) (c .before .before .before .before .before .before .before .before .before .before .before .args .turn) (c .before .before .before .before .before .before .before .before .before .before .before .args .edges) (c .before .before .before .before .before .before .before .before .before .before .before .args .vertices .now) (c .before .before .before .before .before .before .before .before .before .before .before .args .edge-face .now) (c .before .before .before .before .before .before .before .before .before .before .before .args .edge-corner .now) (c .before .before .before .before .before .before .before .before .before .before .before .args .pts .now) (c .before .before .before .before .before .before .before .before .before .before .before .args .adj .now) (c .before .before .before .before .before .before .before .before .before .before .before .args .nums .now) (c .before .before .before .before .before .before .before .before .before .before .before .args .dead .now) (c .before .before .before .before .before .before .before .before .before .before .before .args .heap-face .now) (c .before .before .before .before .before .before .before .before .before .before .before .args .heap-key .now) (c .before .before .before .before .before .before .before .before .before .before .before .args .start) (c .before .loop .pts) (c .before .loop .adj) (c .before .loop .nums) (c .before .loop .dead) (c .before .loop .heap-face) (c .before .loop .heap-key) (c .before .loop .run) (c .before .loop .i) (c .before .loop .inv) (c .loop-test .left)
+returns-2 c = loop-done (c .before .loop .inv) (c .loop-test .left)
 
 pub grow-all-spec : {M : Type 1} → statement M
-grow-all-spec = tie.close (tie.spec Inv-loop μ-loop loop-holds (λ c κs. tt) enum-known-grown enum-told same-length same-length-2 same-length-3 same-length-4 same-length-5 same-length-6 returns add-i loop-less loop-again same-length-7 same-length-8 same-length-9 same-length-10 same-length-11 same-length-12 returns-2)
+grow-all-spec = tie.close (tie.spec Inv-loop μ-loop loop-holds (λ c κs. tt) (λ c. search needs) (λ c. search needs)
+    (λ c. ended c .grow .kept .1 .0 ∙ turn (ended c) .before .loop .inv .samePts)
+    (λ c. ended c .grow .kept .1 .1 .0 ∙ turn (ended c) .before .loop .inv .sameAdj)
+    (λ c. ended c .grow .kept .1 .1 .1 .0 ∙ turn (ended c) .before .loop .inv .sameNums)
+    (λ c. ended c .grow .kept .1 .1 .1 .1 .0 ∙ turn (ended c) .before .loop .inv .sameDead)
+    (λ c. ended c .grow .kept .1 .1 .1 .1 .1 .1 .1 .0 ∙ turn (ended c) .before .loop .inv .sameFaces)
+    (λ c. ended c .grow .kept .1 .1 .1 .1 .1 .1 .1 .1 .0 ∙ turn (ended c) .before .loop .inv .sameKeys) returns
+    add-i loop-less loop-again
+    (λ c. c .before .loop .inv .samePts) (λ c. c .before .loop .inv .sameAdj) (λ c. c .before .loop .inv .sameNums) (λ c. c .before .loop .inv .sameDead)
+    (λ c. c .before .loop .inv .sameFaces) (λ c. c .before .loop .inv .sameKeys) returns-2)

@@ -1,5 +1,4 @@
 -- `push_face` does what `pushFace` does: it is refused, or the face is written. Assumes nothing.
-use native.Mathlib.Omega.{arith}
 use borrow.Author.Needs.{needs}
 use Rattle.pushes.proofs.Pushing.{face-refused, face-written}
 use Rattle.pushes.proofs.pushes.push_face.Statement.{statement}
