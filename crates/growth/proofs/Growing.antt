@@ -2,10 +2,12 @@
 use mathlib.Core.Path.{_≡_, refl, ap, _∙_}
 use mathlib.Core.Bool.{Bool, true, false}
 use mathlib.Core.List.{List}
-use Prim.Native.Nat.{ℕ, _+_, _-_, _*_, _%_, _<_, _≤_, suc}
+use Prim.Native.Nat.{ℕ, _+_, _-_, _*_, _%_, _^_, _<_, _≤_, suc}
 use lib.ListN.{length, getD, set}
 use lib.Ieee.{Float, binary32}
 use lib.Dec.{leb}
+use mir.Syntax.{w64}
+use mir.Val.{Fits}
 use borrow.Author.Tests.{leb-false, eq-eqb, ne-eqb}
 use native.Mathlib.Omega.{arith}
 use Rattle.vector.specs.declared.vec3.Vec3.{Vec3}
@@ -38,21 +40,24 @@ pub record FacePushed (rooms : Rooms) (run : Run) (u : Turn) (f c : ℕ) (v : Li
 
 module _ {rooms : Rooms} {run : Run} {u : Turn} {f c : ℕ} {v : List Float} {p a : List ℕ} {n : List Float} {d hf : List ℕ} {hk : List Float}
     {m : Made} {p' a' : List ℕ} {n' : List Float} {d' : List ℕ} {r : Step} where
-  -- the edge's vertices are x and y. The code's neighbours j and k are the definition's where there is room for a face; where there is none they are not looked at
+  -- the edge's vertices are x and y. The code's neighbours j and k are the definition's where there is room for a face; where there is none, and
+  -- the sum may wrap, they are not looked at
   pub face-pushed : {x y j k : ℕ} {a1 : List ℕ} → x ≡ getD p (f * 3 + (c % 3 + 2) % 3) 0 → y ≡ getD p (f * 3 + (c % 3 + 1) % 3) 0
       → m ≡ faceNew binary32 (vertexAt v x .point) (vertexAt v y .point) (vertexAt v (u .point) .point)
       → a1 ≡ set a (f * 3 + (c % 3 + 1) % 3) (run .faces)
-      → (run .faces < rooms .faces → j ≡ run .faces + 1) → k ≡ run .faces - 1
+      → j ≡ (run .faces + 1) % 2 ^ 64 → k ≡ run .faces - 1 → Fits w64 (rooms .faces)
       → PushesFace rooms run (three x y (u .point)) (three f j k) m p a1 n d p' a' n' d' r
       → FacePushed rooms run u f c v p a n d hf hk m p' a' n' d' r
   unfolding growAt link pushFace _>>=_ _>>_ look put stopIf
-  face-pushed {x} {y} {j} {k} {a1} ix iy im il ij ik g = record { goesOn = λ supp ef ec. by supp ef ec (leb (rooms .faces) (run .faces)) refl }
+  face-pushed {x} {y} {j} {k} {a1} ix iy im il ij ik fits g = record { goesOn = λ supp ef ec. by supp ef ec (leb (rooms .faces) (run .faces)) refl }
     where
       by : (supp : Vec3 → Vertex) (ef ec : List ℕ) (b : Bool) → leb (rooms .faces) (run .faces) ≡ b
           → next (stepOut (λ x. stateOf v p' a' n' d' ef ec hf hk x) r) (λ _. doIf (m .holds) (queueNew (worldOf binary32 supp) (heapRoom rooms hf hk) u (run .faces)))
           ≡ growAt (worldOf binary32 supp) (heapRoom rooms hf hk) u f c (stateOf v p a n d ef ec hf hk run)
       by supp ef ec true t = rw (← next-one c, ← next-two c, ← ix, ← iy, ← im, ← il, t, rw t at (g v ef ec hf hk))
-      by supp ef ec false t = rw (← next-one c, ← next-two c, ← ix, ← iy, ← im, ← il, rw (ij (leb-false _ _ t), ik) at (g v ef ec hf hk))
+      by supp ef ec false t =
+          let e : j ≡ run .faces + 1 = omega (arith, leb-false (rooms .faces) (run .faces) t) in
+          rw (← next-one c, ← next-two c, ← ix, ← iy, ← im, ← il, rw (e, ik) at (g v ef ec hf hk))
 
   module _ (h : FacePushed rooms run u f c v p a n d hf hk m p' a' n' d' r) {x : Run} where
     pub grow-refused : {e : End} → r ≡ Ended e x → GrowsAt rooms run u f c v p a n d hf hk p' a' n' d' hf hk r

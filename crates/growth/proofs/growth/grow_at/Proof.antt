@@ -1,8 +1,6 @@
 -- `grow_at` does what `growAt` does: the face is made, linked and pushed, and queued if it holds the projection. What is left after the
 -- push is told once, of the place where `push_face` has returned; the three ways out are its cases. Assumes nothing.
-use native.Mathlib.Omega.{arith}
-use mathlib.Core.Path.{_≡_, _∙_}
-use Prim.Native.Nat.{_+_, _<_}
+use mathlib.Core.Path.{_∙_}
 use mir.Syntax.{w64}
 use mir.Val.{Fits}
 use borrow.Author.Needs.{needs}
@@ -47,10 +45,8 @@ pushed c =
     let at-made-of = at-link .before .before in
     let at-three-at2 = at-made-of .before in
     let at-three-at = at-three-at2 .before .before in
-    let next : start c .args .run .faces < start c .args .rooms .faces → at-wrapping-add .wrapping-add-usize .result ≡ start c .args .run .faces + 1 =
-    λ free. omega (arith, at-wrapping-add .wrapping-add-usize .ensures, faces-fit (start c)) in
     face-pushed (at-three-at .three-at .ensures) (at-three-at2 .three-at2 .ensures) (at-made-of .made-of .ensures) (at-link .set-three-at .ensures)
-    next (at-before .before2 .ensures) (c .push-face .ensures)
+    (at-wrapping-add .wrapping-add-usize .ensures) (at-before .before2 .ensures) (faces-fit (start c)) (c .push-face .ensures)
 
 returns : tie.Need-returns
 returns c = grow-refused (pushed (refused c)) (c .enum-told .given .1)

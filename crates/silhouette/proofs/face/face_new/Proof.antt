@@ -7,7 +7,22 @@ use Rattle.silhouette.proofs.face.face_new.Tie as tie
 
 returns : tie.Need-returns
 unfolding faceNew zeroV ofBits
-returns c = simp (← c .before .before .before .before .before .before .project-local-point-and-get-location .ensures, ← c .before .before .before .before .before .polytope-tol .ensures, ← c .before .before .before .before .is-inside-eps .ensures, ← c .before .before .before .face-normal .ensures, ← c .before .before .barycentric-coordinates .ensures, ← c .before .weights-or .ensures, ← c .holds-at .ensures)
+returns c =
+    let at-weights-or = c .before in
+    let at-coordinates = at-weights-or .before in
+    let at-normal = at-coordinates .before in
+    let at-inside = at-normal .before in
+    let at-tol = at-inside .before in
+    let at-projection = at-tol .before in
+    simp (
+      ← at-projection .project-local-point-and-get-location .ensures,
+      ← at-tol .polytope-tol .ensures,
+      ← at-inside .is-inside-eps .ensures,
+      ← at-normal .face-normal .ensures,
+      ← at-coordinates .barycentric-coordinates .ensures,
+      ← at-weights-or .weights-or .ensures,
+      ← c .holds-at .ensures,
+    )
 
 pub face-new-spec : {M : Type 1} → statement M
 face-new-spec = tie.close (tie.spec (λ c κs. tt) (λ c κs. tt) (λ c κs. tt) (λ c κs. tt) (λ c κs. tt) (λ c κs. tt) (λ c κs. tt) returns)

@@ -27,7 +27,14 @@ loop-less : tie.Need-loop-less Inv-loop μ-loop
 loop-less c = omega arith
 
 loop-again : tie.Need-loop-again Inv-loop μ-loop
-loop-again c = (omega arith, c .before .before .set-at .kept .0 ∙ c .before .before .before .before .before .loop .inv .1, c .before .before .set-at .ensures ∙ ap (λ (l : List ℕ). set l (c .before .before .before .before .before .loop .i) 0) (c .before .before .before .before .before .loop .inv .2) ∙ sym (blank-next (c .before .before .before .before .before .loop .i) (c .before .before .before .before .before .before .before .args .l .now)))
+loop-again c =
+    let at-set = c .before .before in
+    let at-loop = at-set .before .before .before in
+    let l = at-loop .before .before .args .l .now in (
+      omega arith,
+      at-set .set-at .kept .0 ∙ at-loop .loop .inv .1,
+      at-set .set-at .ensures ∙ ap (λ (l : List ℕ). set l (at-loop .loop .i) 0) (at-loop .loop .inv .2) ∙ sym (blank-next (at-loop .loop .i) l),
+    )
 
 same-length : tie.Need-same-length Inv-loop μ-loop
 same-length c = c .before .loop .inv .1

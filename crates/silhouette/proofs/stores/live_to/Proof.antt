@@ -29,7 +29,13 @@ loop-less : tie.Need-loop-less Inv-loop μ-loop
 loop-less c = omega arith
 
 loop-again : tie.Need-loop-again Inv-loop μ-loop
-loop-again c = ⊎-elim (λ w. (omega arith, live-more _ _ _ (sym (c .before .dead-at .ensures) ∙ w .0 .taken) (c .before .before .before .loop .inv .1) (w .1))) (λ w. (omega arith, live-same _ _ _ (λ z. w .0 .left (c .before .dead-at .ensures ∙ z)) (c .before .before .before .loop .inv .1) (w .1))) (c .if1 .came)
+loop-again c =
+    let at-dead-at = c .before in
+    let inv = at-dead-at .before .before .loop .inv in
+    ⊎-elim
+    (λ w. (omega arith, live-more _ _ _ (sym (at-dead-at .dead-at .ensures) ∙ w .0 .taken) (inv .1) (w .1)))
+    (λ w. (omega arith, live-same _ _ _ (λ z. w .0 .left (at-dead-at .dead-at .ensures ∙ z)) (inv .1) (w .1)))
+    (c .if1 .came)
 
 returns : tie.Need-returns Inv-loop μ-loop
 returns c = c .before .loop .inv .1 ∙ ap (λ (k : ℕ). liveTo k (c .before .before .before .args .dead .now)) (omega arith)
