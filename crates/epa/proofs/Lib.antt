@@ -1,7 +1,3 @@
--- What the functions' proofs cite: the run's counts, and each step told of the lists and the answer that the code leaves.
-pub mod Counts
-pub mod Starts
-pub mod Popping
-pub mod Turning
-pub mod Running
+-- What the functions' proofs cite, and that a contract leaves no choice.
+pub mod Answering
 pub mod Only

@@ -1,17 +1,50 @@
 // Penetration: from two shapes that meet, the pose of the second in the frame of the first, and the simplex that GJK ended with, a
 // point on each and a normal, by the expanding polytope of epa3.rs. The caller lends the four stores.
 ghost use mathlib.Core.Path.{_≡_};
+ghost use Rattle.epa.specs.Contracts.{countsBy, answerAt};
 ghost use Rattle.epa.specs.Final.{finalBy, penetration};
 
-mod run;
-mod turns;
 mod types;
 
+use polytope::End;
+use polytope::Lost;
+use polytope::Run;
+use polytope::Step;
+use run::run_epa;
 use shape::Shape;
+use silhouette::live_to;
 use simplex::VoronoiSimplex;
 pub use types::Answer;
 pub use types::Counts;
 use vector::Pose;
+
+// The counts of a run that has ended.
+fn counts_of(dead: &[u8], run: Run) -> Counts
+    ensures { λ r. ⌜ r ≡ countsBy (now (dead .entry)) run ⌝ }
+{
+    Counts {
+        expansions: run.done,
+        faces_made: run.faces,
+        faces_live: live_to(dead, run.faces),
+        most_edges: run.most,
+    }
+}
+
+// The answer with its counts.
+fn answer_at(dead: &[u8], step: Step) -> Answer
+    ensures { λ r. ⌜ r ≡ answerAt (now (dead .entry)) step ⌝ }
+{
+    match step {
+        Step::Ended(end, run) => Answer {
+            end,
+            counts: counts_of(dead, run),
+        },
+        Step::Onward(run) => Answer {
+            end: End::Nothing(Lost::NothingQueued),
+            counts: counts_of(dead, run),
+        },
+    }
+}
 
 // `EPA::closest_points`.
 pub fn closest_points(
@@ -31,18 +64,7 @@ pub fn closest_points(
 ) -> Answer
     ensures { λ r. ⌜ finalBy r (now (vertices .exit)) (now (pts .exit)) (now (adj .exit)) (now (nums .exit)) (now (dead .exit)) (now («edge_face» .exit)) (now («edge_corner» .exit)) (now («heap_face» .exit)) (now («heap_key» .exit)) ≡ penetration pos12 g1 g2 simplex (now (vertices .entry)) (now (pts .entry)) (now (adj .entry)) (now (nums .entry)) (now (dead .entry)) (now («edge_face» .entry)) (now («edge_corner» .entry)) (now («heap_face» .entry)) (now («heap_key» .entry)) ⌝ }
 {
-    let rooms = run::rooms_of(
-        vertices.len(),
-        pts.len(),
-        adj.len(),
-        nums.len(),
-        dead.len(),
-        edge_face.len(),
-        edge_corner.len(),
-        heap_face.len(),
-        heap_key.len(),
-    );
-    let step = run::epa(
+    let step = run_epa(
         vertices,
         pts,
         adj,
@@ -55,8 +77,7 @@ pub fn closest_points(
         pos12,
         g1,
         g2,
-        rooms,
         simplex,
     );
-    run::answer_at(dead, step)
+    answer_at(dead, step)
 }

@@ -1,12 +1,5 @@
 // What the calls of this crate answer.
 use polytope::End;
-use pushes::MaybeFaceId;
-
-// An entry that was popped, or none, and how many are left.
-pub struct Popped {
-    pub entry: MaybeFaceId,
-    pub heap: usize,
-}
 
 // The counts of a whole run: expansions completed, faces made, faces live at the end, and the most edges
 // recorded in one pass.

@@ -9,7 +9,7 @@ use lib.Ieee.{Float}
 use Rattle.shape.specs.declared.vertex.Vertex.{Vertex}
 use Rattle.heap.specs.Heap.{Entry}
 use Rattle.polytope.specs.Walk.{Walked, walked, edges, facing, passOf}
-use Rattle.polytope.specs.Polytope.{World, State, Rooms, Made, Turn, Best, VoronoiSimplex, Found, Lost, WalkAnswer, Done, NoRoom, Site, End, answers, nothing, panics, noRoom, Act, ended, Nil, _>>=_, _>>_, look, put, pure, ok, stopIf, doIf, branch, liveTo, live, vertexAt, pointAt, firstFar, meshOf, pushVertex, pushFace, queueFace, queueStart, fourFaces, queueFour, startFour, third, twoFaces, startTwo, second, bootstrap, pushPoints, startVertices, startFaces, answerOf, answer, popEntry, popLive, delete, passed, silhouette, link, queueNew, growAt, grow, growAll, clearEdges, closeRing, regrow, expand, advance, turn, turnIf, complete, nextTurn, turns, expansions, epa, fresh, roomsOf, runEpa}
+use Rattle.polytope.specs.Polytope.{World, State, Rooms, Made, Turn, Best, VoronoiSimplex, Found, Lost, WalkAnswer, Done, NoRoom, Site, End, answers, nothing, panics, noRoom, Act, ended, Nil, _>>=_, _>>_, look, put, pure, ok, stopIf, doIf, branch, liveTo, live, vertexAt, pointAt, firstFar, meshOf, pushVertex, pushFace, queueFace, queueStart, fourFaces, queueFour, startFour, third, twoFaces, startTwo, second, bootstrap, pushPoints, startVertices, startFaces, answerOf, answer, popEntry, popLive, delete, passed, silhouette, link, queueNew, growAt, grow, growAll, clearEdges, closeRing, regrow, expand, advance, turn, turnIf, complete, nextTurn, turns, expansions, begin, epa, fresh, roomsOf, runEpa}
 use Rattle.polytope.proofs.Steps.{Meets, goes, ends, meets-bind, meets-then, meets-look, meets-put, meets-pure, meets-ok, meets-stop, meets-stopIf, meets-doIf, meets-branch, meets-link, meets-face, meets-queue, meets-vertex}
 
 -- no face, no edge, no entry of the heap, no expansion
@@ -262,13 +262,17 @@ module _ (w : World) (r : Rooms) where
 
   -- ---- the run
 
-  quiet-epa : (x : VoronoiSimplex) (s : State) → Unbegun s → Meets Any Quiet (epa w r x s)
-  unfolding epa
-  quiet-epa x s h =
+  quiet-begin : (x : VoronoiSimplex) (s : State) → Unbegun s → Meets Any Quiet (begin w r x s)
+  unfolding begin
+  quiet-begin x s h =
       meets-then Quiet Still _ _ _ s (meets-stopIf Quiet _ _ _ s (λ _. h) (λ _. h)) λ _ s1 h1.
       meets-then Quiet Still _ _ _ s1 (still-vertices w r x s1 h1) λ _ s2 h2.
       meets-look Quiet _ _ s2
-      (meets-then Quiet Any _ _ _ s2 (quiet-startFaces (x .dim) _ s2 h2) λ _ s3 _. calm-expansions _ .from s3)
+      (meets-then Quiet Any _ _ _ s2 (quiet-startFaces (x .dim) _ s2 h2) λ _ s3 _. calm-pure _ .from s3)
+
+  quiet-epa : (x : VoronoiSimplex) (s : State) → Unbegun s → Meets Any Quiet (epa w r x s)
+  unfolding epa
+  quiet-epa x s h = meets-bind Quiet Any _ _ _ s (quiet-begin x s h) λ tol s1 _. calm-expansions tol .from s1
 
 unbegun-fresh : (s : State) → Unbegun (fresh s)
 unfolding fresh

@@ -10,7 +10,7 @@ use borrow.Author.Tests.{eqb-true, eqb-false, leb-true, not-false}
 use Rattle.shape.specs.declared.vertex.Vertex.{Vertex}
 use Rattle.polytope.specs.declared.types.Made.{Made}
 use Rattle.heap.specs.Heap.{Heap, Entry, pushed}
-use Rattle.polytope.specs.Polytope.{World, State, Rooms, VoronoiSimplex, Verts, Best, End, nothing, noRoom, Store, theVerts, theFaces, theEdges, theHeap, keyAtStart, Out, onward, ended, Nil, look, put, withFaces, withQueue, oneMore, liveTo, live, threeN, pushPoints, firstFar, second, bootstrap, queueStart, startFour, fourFaces, queueFour, third, twoFaces, startTwo, startVertices, startFaces, expansions, turns, epa, fresh, roomsOf, runEpa, vertexAt}
+use Rattle.polytope.specs.Polytope.{World, State, Rooms, VoronoiSimplex, Verts, Best, End, nothing, noRoom, Store, theVerts, theFaces, theEdges, theHeap, keyAtStart, Out, onward, ended, Nil, look, put, withFaces, withQueue, oneMore, liveTo, live, threeN, pushPoints, firstFar, second, bootstrap, queueStart, startFour, fourFaces, queueFour, third, twoFaces, startTwo, startVertices, startFaces, expansions, turns, begin, epa, fresh, roomsOf, runEpa, vertexAt}
 use Rattle.polytope.specs.Bounds.{AllIn, Good, Between, started, expanded, bound, Within, Tight, Starting, without, with-all, Ended, Ends, facesAtStart, Ample}
 use Rattle.polytope.proofs.Basics.{all-as, all-three, all-none, live-push}
 use Rattle.polytope.proofs.Sizes.{bound-zero, bound-most}
@@ -22,7 +22,7 @@ use Rattle.heap.specs.Heap as Heap
 use Rattle.number.specs.Constants.{largest}
 use Rattle.vector.specs.Vector.{zeroF}
 use Rattle.simplex.specs.Simplex.{isSimplex}
-use Rattle.polytope.proofs.Steps.{Meets, meets-then, meets-look, meets-put, meets-ok, meets-stop, meets-stopIf, meets-doIf, meets-branch, meets-face, meets-queue, meets-vertex, meets-map}
+use Rattle.polytope.proofs.Steps.{Meets, meets-bind, meets-then, meets-look, meets-put, meets-pure, meets-ok, meets-stop, meets-stopIf, meets-doIf, meets-branch, meets-face, meets-queue, meets-vertex, meets-map}
 
 -- the stores with no entries
 pub record Empty (s : State) : Type 0 where
@@ -342,25 +342,34 @@ module _ (J : State → Type 0) (r : Rooms) (K : Keeps r J) where
     between-ready s h j _ _ _ (expanded tol k b b1 t u q l e) =
         (rw e at (meets-nextTurn J r K F w k tol b t l (between-ready s h j k b t q))) .held
 
-  -- every run ends, within the sizes, and leaves what every move keeps
-  pub run-ends : (w : World) (x : VoronoiSimplex) (s : State) → Empty s → J s → Meets (λ _ t. ⊥) (Ending J (facesAtStart x) r) (epa w r x s)
-  unfolding epa expansions
-  run-ends w x s h j =
+  -- the start, with its faces
+  meets-begin : (w : World) (x : VoronoiSimplex) (s : State) → Empty s → J s → Meets (λ _ t. Ready J (facesAtStart x) 0 t) (Ending J (facesAtStart x) r) (begin w r x s)
+  unfolding begin
+  meets-begin w x s h j =
       let f = facesAtStart x in
       let E = Ending J f r in
       meets-then E (λ _ t. Empty t × J t × (x .dim ≤ 3)) _ _ _ s
       (meets-stopIf E _ (not (isSimplex x)) _ s
       (λ _. end-begun f 0 0 0 _ s (omega arith) (omega arith) (omega arith) (begun f s h j) tt)
       (λ e. (h, j, low-dimension x (not-false _ e)))) λ _ s1 h1.
-      meets-then E (λ _ t. Early f (x .dim) t) _ _ _ s1 (meets-vertices w x (h1 .2) s1 (h1 .0) (h1 .1)) λ _ s1' h1'.
-      meets-look E _ _ s1'
-      (meets-then E (λ _ t. Ready J f 0 t) _ _ _ s1' (meets-faces w x (h1 .2) _ s1' h1') λ _ s2 h2.
+      meets-then E (λ _ t. Early f (x .dim) t) _ _ _ s1 (meets-vertices w x (h1 .2) s1 (h1 .0) (h1 .1)) λ _ s2 h2.
+      meets-look E _ _ s2
+      (meets-then E (λ _ t. Ready J f 0 t) _ _ _ s2 (meets-faces w x (h1 .2) _ s2 h2) λ _ s3 h3.
+      meets-pure E _ _ s3 h3)
+
+  -- every run ends, within the sizes, and leaves what every move keeps
+  pub run-ends : (w : World) (x : VoronoiSimplex) (s : State) → Empty s → J s → Meets (λ _ t. ⊥) (Ending J (facesAtStart x) r) (epa w r x s)
+  unfolding epa expansions
+  run-ends w x s h j =
+      let f = facesAtStart x in
+      let E = Ending J f r in
+      meets-bind E (λ _ t. Ready J f 0 t) _ _ _ s (meets-begin w x s h j) λ tol s2 h2.
       meets-look E _ _ s2
       (meets-then E (λ _ t. Best-ready J r K f w 0 (record { face = Heap.entryAt (s2 .queue) 0 .face; bound = largest (w .format); last = zeroF }) t) _ _ _ s2
       (meets-stopIf E _ _ _ s2
       (λ _. (record { from = f; starting = with-all; turns = 0; atMost = omega arith; completed = omega (arith, h2 .completed); underWay = omega arith; within = h2 .within; tight = tt }, h2 .kept))
       (λ e. record { ready = h2; bestIn = h2 .sound .queueIn .each .below 0 (nonzero (s2 .queue .count) (eqb-false _ _ e)) })) λ _ s3 h3.
-      meets-turns J r K f w 101 0 _ _ s3 (omega arith) h3))
+      meets-turns J r K f w 101 0 _ _ s3 (omega arith) h3)
     where
       nonzero : (n : ℕ) → (n ≡ 0 → ⊥) → 0 < n
       nonzero n e = omega arith

@@ -645,15 +645,19 @@ expansions w r tol = do
   stopIf (eqb (s .queue .count) 0) (nothing nothingQueued)
   turns w r tol 101 (record { face = entryAt (s .queue) 0 .face; bound = largest (w .format); last = zeroF })
 
--- the run: the start, and the expansions
-unfoldable pub epa : World → Rooms → VoronoiSimplex → Act Nil
-epa w r x = do
+-- the start: the vertices, the tolerance of the keys, and the first faces
+unfoldable pub begin : World → Rooms → VoronoiSimplex → Act Float
+begin w r x = do
   stopIf (not (isSimplex x)) (panics notASimplex)
   startVertices w r x
   s ← look
   let tol = distTol (w .format) (s .verts .cells) (s .verts .count)
   startFaces w r (x .dim) tol
-  expansions w r tol
+  pure tol
+
+-- the run: the start, and the expansions
+unfoldable pub epa : World → Rooms → VoronoiSimplex → Act Nil
+epa w r x = begin w r x >>= expansions w r
 
 -- the counts of a run that has not begun
 abbrev pub noneYet : Run

@@ -1,3 +1,4 @@
--- What the functions' proofs cite: the search for a second vertex, and the steps of the start.
+-- What the functions' proofs cite: the search for a second vertex, the steps of the start, and the whole of it.
 pub mod Searching
 pub mod Starting
+pub mod Begun

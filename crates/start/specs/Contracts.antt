@@ -12,13 +12,16 @@ use Rattle.shape.specs.declared.shape.Shape.{Shape}
 use Rattle.shape.specs.declared.vertex.Vertex.{Vertex}
 use Rattle.simplex.specs.declared.simplex.VoronoiSimplex.{VoronoiSimplex}
 use Rattle.simplex.specs.Simplex.{isSimplex}
-use Rattle.polytope.specs.Polytope.{stateOf, stepOut, pushPoints, bootstrap, startVertices, firstFar, stopIf, _>>_}
+use Rattle.polytope.specs.Polytope.{State, stateOf, stepOut, Out, onward, ended, pushPoints, bootstrap, startVertices, begin, noneYet, firstFar, stopIf, _>>_}
 use Rattle.polytope.specs.declared.types.Site.the-variants.{NotASimplex}
 use Rattle.polytope.specs.declared.types.End.the-variants.{Panics}
 use Rattle.polytope.specs.declared.types.Run.{Run}
 use Rattle.polytope.specs.declared.types.Rooms.{Rooms}
 use Rattle.polytope.specs.declared.types.Step.{Step}
-use Rattle.pushes.specs.Contracts.{worldBy}
+use Rattle.polytope.specs.declared.types.Step.the-variants.{Onward, Ended}
+use Rattle.pushes.specs.Contracts.{worldBy, heapRoom}
+use Rattle.start.specs.declared.types.Begun.{Begun}
+use Rattle.start.specs.declared.types.Begun.the-variants as Beginning
 use Rattle.start.specs.declared.types.MaybeVertex.{MaybeVertex}
 use Rattle.start.specs.declared.types.MaybeVertex.the-variants as MaybeVert
 
@@ -48,3 +51,19 @@ abbrev pub StartsVertices : Pose → Shape → Shape → Rooms → Run → Voron
 StartsVertices m g1 g2 rooms run x v v' r =
     (p a : List ℕ) (n : List Float) (d ef ec hf : List ℕ) (hk : List Float)
     → stepOut (λ c. stateOf v' p a n d ef ec hf hk c) r ≡ (stopIf (not (isSimplex x)) (Panics NotASimplex) >> startVertices (worldBy m g1 g2) rooms x) (stateOf v p a n d ef ec hf hk run)
+
+-- what the start of the code leaves, by the lists that it leaves
+abbrev pub begunOut : (Run → State) → Begun → Out Float
+begunOut lists (Beginning.Ready tol r) = onward tol (lists r)
+begunOut lists (Beginning.Ended e r) = ended e (lists r)
+
+-- the tolerance goes on with what the first faces leave
+abbrev pub readyOf : Step → Float → Begun
+readyOf (Onward x) tol = Beginning.Ready tol x
+readyOf (Ended e x) tol = Beginning.Ended e x
+
+-- `begin`, from stores with no entries
+abbrev pub Begins : Pose → Shape → Shape → Rooms → VoronoiSimplex → List Float → List ℕ → List ℕ → List Float → List ℕ → List ℕ → List Float → List Float → List ℕ → List ℕ → List Float → List ℕ → List ℕ → List Float → Begun → Type 0
+Begins m g1 g2 rooms x v p a n d hf hk v' p' a' n' d' hf' hk' r =
+    (ef ec : List ℕ)
+    → begunOut (λ c. stateOf v' p' a' n' d' ef ec hf' hk' c) r ≡ begin (worldBy m g1 g2) (heapRoom rooms hf hk) x (stateOf v p a n d ef ec hf hk noneYet)

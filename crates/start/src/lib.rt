@@ -1,7 +1,8 @@
-// The start of the polytope of epa3.rs, over stores that the caller lends: the vertices, and the tolerance of the keys.
+// The start of the polytope of epa3.rs, over stores that the caller lends: the vertices, the tolerance of the keys, and the first faces.
 // What each function leaves and answers is a step of the run that the crate `polytope` defines.
+mod beginning;
 mod types;
 mod vertices;
 
-pub use vertices::dist_tol;
-pub use vertices::start_vertices;
+pub use beginning::begin;
+pub use types::Begun;
