@@ -1,12 +1,12 @@
 -- Numbers there and back: what is encoded decodes to itself, whatever stands around it (`encoded`), and what decodes is the encoding of what it decoded to (`decoded`).
 -- By the groups of a number. Assumes nothing.
-use Prim.Native.Nat.{ℕ, zero, suc, _+_, _-_, _*_, _/_, _%_, _^_, _<_, _≤_}
+use Prim.Native.Nat.{ℕ, zero, suc, _+_, _*_, _/_, _%_, _^_, _<_, _≤_}
 use mathlib.Core.Path.{_≡_, refl, sym, ap, _∙_}
 use mathlib.Core.Bool.{Bool, true, false, cond}
 use mathlib.Core.List.{List, [], _∷_, _++_}
 use native.Mathlib.Omega.{arith}
-use lib.ListN.{length, take, drop, getD}
-use lib.Seq.{drop-append-seam, drop-drop, take-append-seam, getD-drop}
+use lib.ListN.{length, drop, getD}
+use lib.Seq.{drop-drop, getD-drop}
 use lib.Dec.{ltb, leb, eqb}
 use borrow.Author.Tests.{ne-eqb, lt-ltb, le-ltb, le-leb, ltb-true, ltb-false, leb-true, eqb-false}
 use Rattle.casefile.specs.declared.numbers.NumberAnswer.{NumberAnswer}
@@ -66,9 +66,6 @@ first-back v false e k t at =
 pub encoded : (s t : List ℕ) (at v : ℕ) → v < 2 ^ 32 → drop at s ≡ encode v ++ t → decodeNumber s at ≡ Read v (at + length (encode v))
 unfolding decodeNumber
 encoded s t at v k e = rw e (first-back v (ltb v 128) refl k t at)
-
-pub encoded-between : (p t : List ℕ) (v : ℕ) → v < 2 ^ 32 → decodeNumber (p ++ (encode v ++ t)) (length p) ≡ Read v (length p + length (encode v))
-encoded-between p t v k = encoded (p ++ (encode v ++ t)) t (length p) v k (drop-append-seam p (encode v ++ t))
 
 -- ---- and back
 
@@ -173,13 +170,6 @@ decoded s at v next b e =
     let r = starts (drop at s) at v next (λ i. rw getD-drop (b (at + i))) e in
     let d : drop (length (encode v)) (drop at s) ≡ drop next s = drop-drop (length (encode v)) at s ∙ ap (λ (k : ℕ). drop k s) (sym (r .after)) in
     record { small = r .small; after = r .after; here = r .here ∙ ap (λ (l : List ℕ). encode v ++ l) d }
-
--- the bytes from `at` to `next` are exactly the encoding
-pub decoded-bytes : (s : List ℕ) (at v next : ℕ) → Bytes s → decodeNumber s at ≡ Read v next → take (next - at) (drop at s) ≡ encode v
-decoded-bytes s at v next b e =
-    let r = decoded s at v next b e in
-    let l : next - at ≡ length (encode v) = omega (arith, r .after) in
-    rw (r .here, l) (take-append-seam (encode v) (drop next s))
 
 -- so a number stands at a place exactly where it is read there
 pub read-back : (s : List ℕ) (at v next : ℕ) → Stands s at v next → decodeNumber s at ≡ Read v next

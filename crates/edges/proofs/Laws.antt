@@ -2,17 +2,16 @@
 --     columns-handed       the rows' first numbers are the columns of the store's first records
 --     records-read         the rows hold the store's first records, at most 206
 --     published-back       publishing what was read leaves the store as it was
---     published-reads      what is published is what is read next, where there are as many records as are read
 --     length-published, beyond-kept        the store is as long as it was, and the places beyond the records are as they were
-use mathlib.Core.Path.{_≡_, sym, ap, _∙_, subst}
+use mathlib.Core.Path.{_≡_, ap, _∙_}
 use Prim.Native.Nat.{ℕ, zero, suc, _≤_, min}
-use native.Mathlib.Nat.{zero-min, min-zero, suc-min-suc, min-le-left, le-of-eq}
+use native.Mathlib.Nat.{zero-min, min-zero, suc-min-suc}
 use mathlib.Core.List.{List, [], _∷_, map}
 use lib.ListN.{length, take, drop, replicate}
 use Rattle.edges.specs.Edges.{over, records, facesOf, cornersOf, rowsOf, recordsOf, published}
 use Rattle.edges.specs.declared.Edge.{Edge}
 use Rattle.edges.specs.declared.Rows.{Rows}
-use Rattle.edges.proofs.Over.{take-enough, take-min, length-over, over-same, take-over, drop-over, take-records, records-of}
+use Rattle.edges.proofs.Over.{length-over, over-same, drop-over, take-records, records-of}
 
 -- of one column
 handed : (f : Edge → ℕ) (m : ℕ) (es : List Edge) → take (min (length es) m) (over (map f es) (replicate m 0)) ≡ map f (take m es)
@@ -35,12 +34,6 @@ published-back es = ap (λ (rs : List Edge). over rs es) (records-read es) ∙ o
 
 pub length-published : (r : Rows) (es : List Edge) → length (published r es) ≡ length es
 length-published r es = length-over (recordsOf r) es
-
-pub published-reads : (r : Rows) (es : List Edge) → length (recordsOf r) ≡ min (length es) 206 → recordsOf (rowsOf (published r es)) ≡ recordsOf r
-published-reads r es many =
-    records-read (published r es)
-    ∙ ap (take 206) (sym (take-enough (length es) (published r es) (le-of-eq (length-published r es)))) ∙ sym (take-min (length es) 206 (published r es))
-    ∙ ap (λ (k : ℕ). take k (published r es)) (sym many) ∙ take-over (recordsOf r) es (subst (λ (k : ℕ). k ≤ length es) (sym many) (min-le-left (length es) 206))
 
 pub beyond-kept : (r : Rows) (es : List Edge) (k : ℕ) → length (recordsOf r) ≤ k → drop k (published r es) ≡ drop k es
 beyond-kept r es k short = drop-over k (recordsOf r) es short

@@ -15,7 +15,7 @@ use Rattle.edges.specs.declared.Edge.{Edge}
 
 -- ---- lists
 module _ {A : Type 0} where
-  pub take-enough : (k : ℕ) (xs : List A) → length xs ≤ k → take k xs ≡ xs
+  take-enough : (k : ℕ) (xs : List A) → length xs ≤ k → take k xs ≡ xs
   take-enough zero [] few = refl
   take-enough zero (x ∷ xs) few = absurd (not-suc-le-zero few)
   take-enough (suc k) [] few = refl
@@ -47,7 +47,7 @@ module _ {A : Type 0} where
   over-enough (suc k) (x ∷ xs) [] few = refl
   over-enough (suc k) (x ∷ xs) (y ∷ ys) few = ap {B = List A} (λ r. x ∷ r) (over-enough k xs ys (le-of-suc-le-suc few))
 
-  pub take-min : (a b : ℕ) (xs : List A) → take (min a b) xs ≡ take b (take a xs)
+  take-min : (a b : ℕ) (xs : List A) → take (min a b) xs ≡ take b (take a xs)
   take-min a zero xs = ap (λ (k : ℕ). take k xs) (min-zero a)
   take-min zero (suc b) xs = ap (λ (k : ℕ). take k xs) (zero-min (suc b))
   take-min (suc a) (suc b) [] = ap (λ (k : ℕ). take k []) (suc-min-suc a b)
@@ -74,13 +74,7 @@ module _ {A : Type 0} where
   over-same (suc k) [] = refl
   over-same (suc k) (y ∷ ys) = ap {B = List A} (λ r. y ∷ r) (over-same k ys)
 
-  -- what is written is what is found, and what is beyond is what was there
-  pub take-over : (xs ys : List A) → length xs ≤ length ys → take (length xs) (over xs ys) ≡ xs
-  unfolding over
-  take-over [] ys fits = refl
-  take-over (x ∷ xs) [] fits = absurd (not-suc-le-zero fits)
-  take-over (x ∷ xs) (y ∷ ys) fits = ap {B = List A} (λ r. x ∷ r) (take-over xs ys (le-of-suc-le-suc fits))
-
+  -- what is beyond what is written is what was there
   pub drop-over : (k : ℕ) (xs ys : List A) → length xs ≤ k → drop k (over xs ys) ≡ drop k ys
   unfolding over
   drop-over k [] ys few = refl
