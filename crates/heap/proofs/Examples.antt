@@ -1,4 +1,4 @@
--- Document 01's known cases of the heap, computed: in which order faces go out. Assumes nothing.
+-- A NaN among the keys, computed: in which order faces go out. What document 01 knows of equal keys is in the crate known. Assumes nothing.
 use mathlib.Core.Path.{_≡_, refl}
 use mathlib.Core.Bool.{true, false}
 use mathlib.Core.List.{[], _∷_}
@@ -15,15 +15,6 @@ minusHalf = fin true 1 (negsuc 0)
 
 abbrev zeroF : Float
 zeroF = fin false 0 (pos 0)
-
--- equal keys do not go out in the order of arrival
-pub four-equal : orderOf (minusOne ∷ minusOne ∷ minusOne ∷ minusOne ∷ []) ≡ 0 ∷ 2 ∷ 1 ∷ 3 ∷ []
-unfolding orderOf pushAll popAll pushed popped settled rise riseIn sink sinkIn greater swap lt
-four-equal = refl
-
-pub three-equal : orderOf (minusOne ∷ minusOne ∷ minusOne ∷ []) ≡ 0 ∷ 1 ∷ 2 ∷ []
-unfolding orderOf pushAll popAll pushed popped settled rise riseIn sink sinkIn greater swap lt
-three-equal = refl
 
 -- a NaN is less than nothing: face 3, whose key is the greatest, does not rise past it, and goes out after face 2
 pub nan-in-between : orderOf (minusOne ∷ nan ∷ minusHalf ∷ zeroF ∷ []) ≡ 2 ∷ 3 ∷ 1 ∷ 0 ∷ []

@@ -1,4 +1,4 @@
--- Laws of the heap's definition, for the proofs of this crate and of those that call it, and the known cases.
+-- Laws of the heap's definition, for the proofs of this crate and of those that call it, and an example.
 pub mod Steps
 pub mod Moves
 pub mod Places
