@@ -5,6 +5,8 @@ ghost use Rattle.vote.specs.Vote.{agree, sameCounts, voteOf};
 use vector::Vec3;
 
 // The counts of a run: expansions completed, faces made, faces live at the end, most edges in one pass.
+// A type of its own, laid out for C: the voter depends on no channel and no printer, and a channel on no voter. The embedding,
+// which depends on both, turns the counts of `lines` into these.
 #[repr(C)]
 pub struct Counts {
     pub expansions: usize,
