@@ -13,7 +13,7 @@ use Rattle.polytope.specs.declared.types.Rooms.{Rooms}
 use Rattle.polytope.specs.declared.types.End.{End}
 use Rattle.polytope.specs.declared.types.Step.{Step}
 use Rattle.polytope.specs.declared.types.Step.the-variants.{Ended}
-use Rattle.polytope.specs.Polytope.{World, State, Out, stateOf, stepOut, begin, expansions, epa, noneYet, roomsBy, roomsOf, runEpa, fresh, next, _>>=_}
+use Rattle.polytope.specs.Polytope.{World, State, Out, stateOf, stepOut, expansions, epa, noneYet, next, _>>=_}
 use Rattle.polytope.proofs.Steps.{Meets}
 use Rattle.pushes.specs.Contracts.{worldBy, heapRoom}
 use Rattle.start.specs.declared.types.Begun.{Begun}
@@ -23,17 +23,13 @@ use Rattle.run.specs.Contracts.{TurnsReady, Expansions, Runs}
 use Rattle.run.proofs.Counts.{Counted, counted}
 use Rattle.run.proofs.Starts.{counted-begin}
 
--- the heap's room is what its lists hold, and these keep their lengths
-same-room : (rooms : Rooms) (hf hf' : List ℕ) (hk hk' : List Float) → rooms .heap ≡ min (length hf) (length hk) → length hf' ≡ length hf → length hk' ≡ length hk → heapRoom rooms hf' hk' ≡ rooms
-same-room rooms hf hf' hk hk' e kf kk =
-    let is : min (length hf') (length hk') ≡ rooms .heap = rw (kf, kk) (sym e) in
-    ap (λ (k : ℕ). record { vertices = rooms .vertices; faces = rooms .faces; edges = rooms .edges; heap = k }) is
-
-module _ (m : Pose) (g1 g2 : Shape) (x : VoronoiSimplex) (v : List Float) (p a : List ℕ) (n : List Float) (d ef ec hf : List ℕ) (hk : List Float) (rooms : Rooms)
-    (is : rooms ≡ roomsBy (length v) (length p) (length a) (length n) (length d) (length ef) (length ec) (length hf) (length hk))
+module _ (m : Pose) (g1 g2 : Shape) (rooms : Rooms) (x : VoronoiSimplex) (v : List Float) (p a : List ℕ) (n : List Float) (d ef ec hf : List ℕ) (hk : List Float)
     (v' : List Float) (p' a' : List ℕ) (n' : List Float) (d' hf' : List ℕ) (hk' : List Float) (r : Begun) (g : Begins m g1 g2 rooms x v p a n d hf hk v' p' a' n' d' hf' hk' r) where
   abbrev W : World
   W = worldBy m g1 g2
+
+  abbrev R : Rooms
+  R = heapRoom rooms hf hk
 
   abbrev S : State
   S = stateOf v p a n d ef ec hf hk noneYet
@@ -41,34 +37,27 @@ module _ (m : Pose) (g1 g2 : Shape) (x : VoronoiSimplex) (v : List Float) (p a :
   abbrev lists : Run → State
   lists c = stateOf v' p' a' n' d' ef ec hf' hk' c
 
-  room : rooms .heap ≡ min (length hf) (length hk)
-  room = ap (λ (z : Rooms). z .heap) is
+  goes-on : (y : Begun) → r ≡ y → next (begunOut lists y) (expansions W R) ≡ epa W R x S
+  unfolding epa _>>=_
+  goes-on y t = ap (λ (o : Out Float). next o (expansions W R)) (ap (λ (z : Begun). begunOut lists z) (sym t) ∙ g ef ec)
 
-  begins : begunOut lists r ≡ begin W rooms x S
-  begins = subst (λ (z : Rooms). begunOut lists r ≡ begin W z x S) (same-room rooms hf hf hk hk room refl refl) (g ef ec)
-
-  goes-on : (y : Begun) → r ≡ y → next (begunOut lists y) (expansions W rooms) ≡ runEpa W x S
-  unfolding runEpa roomsOf fresh epa _>>=_
-  goes-on y t =
-      ap (λ (o : Out Float). next o (expansions W rooms)) (ap (λ (z : Begun). begunOut lists z) (sym t) ∙ begins)
-      ∙ ap (λ (z : Rooms). next (begin W z x S) (expansions W z)) is
-
-  pub start-ends : (e : End) (z : Run) → r ≡ Beginning.Ended e z → Runs m g1 g2 x v p a n d ef ec hf hk v' p' a' n' d' ef ec hf' hk' (Ended e z)
+  pub start-ends : (e : End) (z : Run) → r ≡ Beginning.Ended e z → Runs m g1 g2 rooms x v p a n d ef ec hf hk v' p' a' n' d' ef ec hf' hk' (Ended e z)
   start-ends e z u = goes-on (Beginning.Ended e z) u
 
   module _ (tol : Float) (z : Run) (u : r ≡ Beginning.Ready tol z) (kf : length hf' ≡ length hf) (kk : length hk' ≡ length hk) where
     pub run-ends : (v3 : List Float) (p3 a3 : List ℕ) (n3 : List Float) (d3 ef3 ec3 hf3 : List ℕ) (hk3 : List Float) (r3 : Step)
-        → Expansions m g1 g2 rooms z tol v' p' a' n' d' ef ec hf' hk' v3 p3 a3 n3 d3 ef3 ec3 hf3 hk3 r3 → Runs m g1 g2 x v p a n d ef ec hf hk v3 p3 a3 n3 d3 ef3 ec3 hf3 hk3 r3
+        → Expansions m g1 g2 rooms z tol v' p' a' n' d' ef ec hf' hk' v3 p3 a3 n3 d3 ef3 ec3 hf3 hk3 r3 → Runs m g1 g2 rooms x v p a n d ef ec hf hk v3 p3 a3 n3 d3 ef3 ec3 hf3 hk3 r3
     run-ends v3 p3 a3 n3 d3 ef3 ec3 hf3 hk3 r3 h =
-        subst (λ (k : Rooms). stepOut (λ c. stateOf v3 p3 a3 n3 d3 ef3 ec3 hf3 hk3 c) r3 ≡ expansions W k tol (lists z)) (same-room rooms hf hf' hk hk' room kf kk) h
+        let same : heapRoom rooms hf' hk' ≡ R = rw (kf, kk) in
+        subst (λ (k : Rooms). stepOut (λ c. stateOf v3 p3 a3 n3 d3 ef3 ec3 hf3 hk3 c) r3 ≡ expansions W k tol (lists z)) same h
         ∙ goes-on (Beginning.Ready tol z) u
 
     -- the expansions' caller keeps what they ask
     pub expansions-ready : TurnsReady z 101 hf' hk'
     expansions-ready =
-        let K : Float → State → Type 0 = λ _ o. Counted rooms 0 0 o in
+        let K : Float → State → Type 0 = λ _ o. Counted R 0 0 o in
         let E : End → State → Type 0 = λ _ _. Unit {0} in
-        let c = subst (λ (o : Out Float). Meets K E o) (sym (ap (λ (k : Begun). begunOut lists k) (sym u) ∙ begins)) (counted-begin rooms 0 0 W x S (counted rooms S)) .held in
-        let least : 0 ≤ rooms .heap = omega arith in
-        let full : rooms .heap ≡ min (length hf') (length hk') = rw (kf, kk) room in
+        let c = subst (λ (o : Out Float). Meets K E o) (sym (ap (λ (k : Begun). begunOut lists k) (sym u) ∙ g ef ec)) (counted-begin R 0 0 W x S (counted R S)) .held in
+        let least : 0 ≤ R .heap = omega arith in
+        let full : R .heap ≡ min (length hf') (length hk') = rw (kf, kk) in
         record { entriesIn = subst (λ (k : ℕ). z .heap ≤ k) full (c .queued least); expansionsLeft = omega (arith, c .completed) }

@@ -12,7 +12,7 @@ use Rattle.vector.specs.declared.pose.Pose.{Pose}
 use Rattle.shape.specs.declared.shape.Shape.{Shape}
 use Rattle.simplex.specs.declared.simplex.VoronoiSimplex.{VoronoiSimplex}
 use Rattle.heap.specs.Heap.{Entry}
-use Rattle.polytope.specs.Polytope.{State, stateOf, stepOut, Out, onward, ended, popLive, nextTurn, expansions, runEpa, noneYet}
+use Rattle.polytope.specs.Polytope.{State, stateOf, stepOut, Out, onward, ended, popLive, nextTurn, expansions, epa, noneYet}
 use Rattle.polytope.specs.declared.types.Run.{Run}
 use Rattle.polytope.specs.declared.types.Rooms.{Rooms}
 use Rattle.polytope.specs.declared.types.Best.{Best}
@@ -75,7 +75,7 @@ Expansions m g1 g2 rooms run tol v p a n d ef ec hf hk v' p' a' n' d' ef' ec' hf
 
 -- ---- the run
 
--- `runEpa`, from stores with no entries
-abbrev pub Runs : Pose → Shape → Shape → VoronoiSimplex → List Float → List ℕ → List ℕ → List Float → List ℕ → List ℕ → List ℕ → List ℕ → List Float → List Float → List ℕ → List ℕ → List Float → List ℕ → List ℕ → List ℕ → List ℕ → List Float → Step → Type 0
-Runs m g1 g2 x v p a n d ef ec hf hk v' p' a' n' d' ef' ec' hf' hk' r =
-    stepOut (λ c. stateOf v' p' a' n' d' ef' ec' hf' hk' c) r ≡ runEpa (worldBy m g1 g2) x (stateOf v p a n d ef ec hf hk noneYet)
+-- `epa`, from stores with no entries
+abbrev pub Runs : Pose → Shape → Shape → Rooms → VoronoiSimplex → List Float → List ℕ → List ℕ → List Float → List ℕ → List ℕ → List ℕ → List ℕ → List Float → List Float → List ℕ → List ℕ → List Float → List ℕ → List ℕ → List ℕ → List ℕ → List Float → Step → Type 0
+Runs m g1 g2 rooms x v p a n d ef ec hf hk v' p' a' n' d' ef' ec' hf' hk' r =
+    stepOut (λ c. stateOf v' p' a' n' d' ef' ec' hf' hk' c) r ≡ epa (worldBy m g1 g2) (heapRoom rooms hf hk) x (stateOf v p a n d ef ec hf hk noneYet)

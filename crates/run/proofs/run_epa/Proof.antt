@@ -1,4 +1,4 @@
--- `run_epa` does what `runEpa` does. Assumes nothing.
+-- `run_epa` does what the run's `epa` does. Assumes nothing.
 use borrow.Author.Needs.{needs}
 use mathlib.Core.Path.{refl, _∙_}
 use Rattle.run.proofs.Running.{start-ends, run-ends, expansions-ready}
@@ -19,9 +19,8 @@ returns : tie.Need-returns
 returns c =
     let b = not-begun c .begin in
     let l = b .last in
-    let at-rooms = not-begun c .before .before .before .before .before .before .before .before in
-    let a = at-rooms .before .before .before .before .before .before .before .before .before .before .args in
-    start-ends (a .pos12) (a .g1) (a .g2) (a .simplex) (a .vertices .now) (a .pts .now) (a .adj .now) (a .nums .now) (a .dead .now) (a .edge-face .now) (a .edge-corner .now) (a .heap-face .now) (a .heap-key .now) (at-rooms .rooms-of .result) (at-rooms .rooms-of .ensures) (l .0) (l .1 .0) (l .1 .1 .0) (l .1 .1 .1 .0) (l .1 .1 .1 .1 .0) (l .1 .1 .1 .1 .1 .0) (l .1 .1 .1 .1 .1 .1 .0) (b .result) (b .ensures) _ _ (c .before .begun .given .1)
+    let a = not-begun c .before .before .before .before .before .before .before .before .before .before .before .before .before .before .before .before .before .args in
+    start-ends (a .pos12) (a .g1) (a .g2) (a .rooms) (a .simplex) (a .vertices .now) (a .pts .now) (a .adj .now) (a .nums .now) (a .dead .now) (a .edge-face .now) (a .edge-corner .now) (a .heap-face .now) (a .heap-key .now) (l .0) (l .1 .0) (l .1 .1 .0) (l .1 .1 .1 .0) (l .1 .1 .1 .1 .0) (l .1 .1 .1 .1 .1 .0) (l .1 .1 .1 .1 .1 .1 .0) (b .result) (b .ensures) _ _ (c .before .begun .given .1)
 
 expansions-requires : tie.Need-expansions-requires
 expansions-requires c κs =
@@ -29,9 +28,8 @@ expansions-requires c κs =
     let at-begin = at-told .before .before .before .before .before .before .before .before .before .before .before .before .before .before .before .before .before in
     let b = at-begin .begin in
     let l = b .last in
-    let at-rooms = at-begin .before .before .before .before .before .before .before .before in
-    let a = at-rooms .before .before .before .before .before .before .before .before .before .before .args in
-    expansions-ready (a .pos12) (a .g1) (a .g2) (a .simplex) (a .vertices .now) (a .pts .now) (a .adj .now) (a .nums .now) (a .dead .now) (a .edge-face .now) (a .edge-corner .now) (a .heap-face .now) (a .heap-key .now) (at-rooms .rooms-of .result) (at-rooms .rooms-of .ensures) (l .0) (l .1 .0) (l .1 .1 .0) (l .1 .1 .1 .0) (l .1 .1 .1 .1 .0) (l .1 .1 .1 .1 .1 .0) (l .1 .1 .1 .1 .1 .1 .0) (b .result) (b .ensures) _ _ (at-told .before .begun2 .given .1) (b .kept .1 .1 .1 .1 .1 .0) (b .kept .1 .1 .1 .1 .1 .1 .0)
+    let a = at-begin .before .before .before .before .before .before .before .before .before .before .before .before .before .before .before .before .before .args in
+    expansions-ready (a .pos12) (a .g1) (a .g2) (a .rooms) (a .simplex) (a .vertices .now) (a .pts .now) (a .adj .now) (a .nums .now) (a .dead .now) (a .edge-face .now) (a .edge-corner .now) (a .heap-face .now) (a .heap-key .now) (l .0) (l .1 .0) (l .1 .1 .0) (l .1 .1 .1 .0) (l .1 .1 .1 .1 .0) (l .1 .1 .1 .1 .1 .0) (l .1 .1 .1 .1 .1 .1 .0) (b .result) (b .ensures) _ _ (at-told .before .begun2 .given .1) (b .kept .1 .1 .1 .1 .1 .0) (b .kept .1 .1 .1 .1 .1 .1 .0)
 
 returns-2 : tie.Need-returns-2
 returns-2 c =
@@ -40,9 +38,8 @@ returns-2 c =
     let at-begin = begun (expanded c) in
     let b = at-begin .begin in
     let l = b .last in
-    let at-rooms = at-begin .before .before .before .before .before .before .before .before in
-    let a = at-rooms .before .before .before .before .before .before .before .before .before .before .args in
-    run-ends (a .pos12) (a .g1) (a .g2) (a .simplex) (a .vertices .now) (a .pts .now) (a .adj .now) (a .nums .now) (a .dead .now) (a .edge-face .now) (a .edge-corner .now) (a .heap-face .now) (a .heap-key .now) (at-rooms .rooms-of .result) (at-rooms .rooms-of .ensures) (l .0) (l .1 .0) (l .1 .1 .0) (l .1 .1 .1 .0) (l .1 .1 .1 .1 .0) (l .1 .1 .1 .1 .1 .0) (l .1 .1 .1 .1 .1 .1 .0) (b .result) (b .ensures) _ _ (expanded c .before .before .before .before .before .before .before .before .before .before .before .begun2 .given .1) (b .kept .1 .1 .1 .1 .1 .0) (b .kept .1 .1 .1 .1 .1 .1 .0) (m .0) (m .1 .0) (m .1 .1 .0) (m .1 .1 .1 .0) (m .1 .1 .1 .1 .0) (m .1 .1 .1 .1 .1 .0) (m .1 .1 .1 .1 .1 .1 .0) (m .1 .1 .1 .1 .1 .1 .1 .0) (m .1 .1 .1 .1 .1 .1 .1 .1 .0) (x .result) (x .ensures)
+    let a = at-begin .before .before .before .before .before .before .before .before .before .before .before .before .before .before .before .before .before .args in
+    run-ends (a .pos12) (a .g1) (a .g2) (a .rooms) (a .simplex) (a .vertices .now) (a .pts .now) (a .adj .now) (a .nums .now) (a .dead .now) (a .edge-face .now) (a .edge-corner .now) (a .heap-face .now) (a .heap-key .now) (l .0) (l .1 .0) (l .1 .1 .0) (l .1 .1 .1 .0) (l .1 .1 .1 .1 .0) (l .1 .1 .1 .1 .1 .0) (l .1 .1 .1 .1 .1 .1 .0) (b .result) (b .ensures) _ _ (expanded c .before .before .before .before .before .before .before .before .before .before .before .begun2 .given .1) (b .kept .1 .1 .1 .1 .1 .0) (b .kept .1 .1 .1 .1 .1 .1 .0) (m .0) (m .1 .0) (m .1 .1 .0) (m .1 .1 .1 .0) (m .1 .1 .1 .1 .0) (m .1 .1 .1 .1 .1 .0) (m .1 .1 .1 .1 .1 .1 .0) (m .1 .1 .1 .1 .1 .1 .1 .0) (m .1 .1 .1 .1 .1 .1 .1 .1 .0) (x .result) (x .ensures)
 
 pub run-epa-spec : {M : Type 1} → statement M
-run-epa-spec = tie.close (tie.spec (λ c κs. tt) (λ c κs. tt) (λ c. search needs) (λ c. search needs) expansions-requires (λ c. not-begun c .begin .kept .0) (λ c. not-begun c .begin .kept .1 .0) (λ c. not-begun c .begin .kept .1 .1 .0) (λ c. not-begun c .begin .kept .1 .1 .1 .0) (λ c. not-begun c .begin .kept .1 .1 .1 .1 .0) (λ c. not-begun c .begin .kept .1 .1 .1 .1 .1 .0) (λ c. not-begun c .begin .kept .1 .1 .1 .1 .1 .1 .0) returns (λ c. expanded c .expansions .kept .0 ∙ begun (expanded c) .begin .kept .0) (λ c. expanded c .expansions .kept .1 .0 ∙ begun (expanded c) .begin .kept .1 .0) (λ c. expanded c .expansions .kept .1 .1 .0 ∙ begun (expanded c) .begin .kept .1 .1 .0) (λ c. expanded c .expansions .kept .1 .1 .1 .0 ∙ begun (expanded c) .begin .kept .1 .1 .1 .0) (λ c. expanded c .expansions .kept .1 .1 .1 .1 .0 ∙ begun (expanded c) .begin .kept .1 .1 .1 .1 .0) (λ c. expanded c .expansions .kept .1 .1 .1 .1 .1 .0) (λ c. expanded c .expansions .kept .1 .1 .1 .1 .1 .1 .0) (λ c. expanded c .expansions .kept .1 .1 .1 .1 .1 .1 .1 .0 ∙ begun (expanded c) .begin .kept .1 .1 .1 .1 .1 .0) (λ c. expanded c .expansions .kept .1 .1 .1 .1 .1 .1 .1 .1 .0 ∙ begun (expanded c) .begin .kept .1 .1 .1 .1 .1 .1 .0) returns-2)
+run-epa-spec = tie.close (tie.spec (λ c κs. tt) (λ c. search needs) (λ c. search needs) expansions-requires (λ c. not-begun c .begin .kept .0) (λ c. not-begun c .begin .kept .1 .0) (λ c. not-begun c .begin .kept .1 .1 .0) (λ c. not-begun c .begin .kept .1 .1 .1 .0) (λ c. not-begun c .begin .kept .1 .1 .1 .1 .0) (λ c. not-begun c .begin .kept .1 .1 .1 .1 .1 .0) (λ c. not-begun c .begin .kept .1 .1 .1 .1 .1 .1 .0) returns (λ c. expanded c .expansions .kept .0 ∙ begun (expanded c) .begin .kept .0) (λ c. expanded c .expansions .kept .1 .0 ∙ begun (expanded c) .begin .kept .1 .0) (λ c. expanded c .expansions .kept .1 .1 .0 ∙ begun (expanded c) .begin .kept .1 .1 .0) (λ c. expanded c .expansions .kept .1 .1 .1 .0 ∙ begun (expanded c) .begin .kept .1 .1 .1 .0) (λ c. expanded c .expansions .kept .1 .1 .1 .1 .0 ∙ begun (expanded c) .begin .kept .1 .1 .1 .1 .0) (λ c. expanded c .expansions .kept .1 .1 .1 .1 .1 .0) (λ c. expanded c .expansions .kept .1 .1 .1 .1 .1 .1 .0) (λ c. expanded c .expansions .kept .1 .1 .1 .1 .1 .1 .1 .0 ∙ begun (expanded c) .begin .kept .1 .1 .1 .1 .1 .0) (λ c. expanded c .expansions .kept .1 .1 .1 .1 .1 .1 .1 .1 .0 ∙ begun (expanded c) .begin .kept .1 .1 .1 .1 .1 .1 .0) returns-2)

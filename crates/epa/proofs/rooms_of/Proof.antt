@@ -1,6 +1,6 @@
 -- What `rooms_of` returns. Assumes nothing.
-use Rattle.run.proofs.rooms_of.Statement.{statement}
-use Rattle.run.proofs.rooms_of.Tie as tie
+use Rattle.epa.proofs.rooms_of.Statement.{statement}
+use Rattle.epa.proofs.rooms_of.Tie as tie
 
 returns : tie.Need-returns
 returns c = simp (← c .before .before .before .before .fewer .ensures, ← c .before .before .before .fewer2 .ensures, ← c .before .before .fewer3 .ensures, ← c .before .fewer4 .ensures, ← c .fewer5 .ensures)
