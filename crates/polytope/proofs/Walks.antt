@@ -1,6 +1,6 @@
 -- The laws of the walk: its depth suffices, what it deletes and records, and the places that it writes. Assumes nothing.
 use mathlib.Core.Path.{_≡_, refl, sym, ap, subst, _∙_}
-use mathlib.Core.Bool.{Bool, true, false}
+use mathlib.Core.Bool.{Bool, true, false, cond}
 use mathlib.Core.List.{List, [], _∷_}
 use Prim.Native.Nat.{ℕ, zero, suc, _+_, _*_, _%_, _<_, _≤_}
 use native.Mathlib.Nat.{le-refl}
@@ -8,7 +8,7 @@ use native.Mathlib.Omega.{arith}
 use lib.ListN.{getD, set}
 use lib.Dec.{eqb, ltb}
 use borrow.Author.Tests.{eqb-true, eq-eqb, ne-eqb, ltb-true, ltb-false}
-use Rattle.polytope.specs.Walk.{Mesh, Walked, Edges, walked, edges, one, zeros, pickN, nextCcwPtId, facing, notedIf, noted, askIf, ask, walkIn, walkOf, passOf}
+use Rattle.polytope.specs.Walk.{Mesh, Walked, Edges, walked, edges, one, zeros, nextCcwPtId, facing, notedIf, noted, askIf, ask, walkIn, walkOf, passOf}
 use Rattle.polytope.specs.Polytope.{liveTo}
 use Rattle.polytope.specs.declared.types.WalkAnswer.{WalkAnswer}
 use Rattle.polytope.specs.declared.types.WalkAnswer.the-variants.{Done, NoRoom}
@@ -136,7 +136,7 @@ next-below : (pts : List ℕ) (f p : ℕ) → nextCcwPtId pts f p < 3
 unfolding nextCcwPtId
 next-below pts f p = by (eqb (getD pts (f * 3 + 0) 0) p) (eqb (getD pts (f * 3 + 1) 0) p)
   where
-    by : (a b : Bool) → pickN a 1 (pickN b 2 0) < 3
+    by : (a b : Bool) → cond a 1 (cond b 2 0) < 3
     by true b = omega arith
     by false true = omega arith
     by false false = omega arith

@@ -1,7 +1,7 @@
 -- The silhouette walk, `compute_silhouette` of src/query/epa/epa3.rs, as a function on lists, over any test of which faces are seen. Definitions only.
 use Prim.Native.Nat.{ℕ, zero, suc, _+_, _*_, _%_}
 use mathlib.Core.List.{List, [], _∷_}
-use mathlib.Core.Bool.{Bool, true, false}
+use mathlib.Core.Bool.{Bool, true, false, cond}
 use lib.ListN.{getD, set}
 use lib.Dec.{eqb, ltb}
 use Rattle.polytope.specs.declared.types.WalkAnswer.{WalkAnswer}
@@ -36,13 +36,9 @@ walked dead e = record { dead = dead; edged = e }
 abbrev pub question : ℕ → ℕ → Question
 question f c = record { face = f; corner = c }
 
-abbrev pub pickN : Bool → ℕ → ℕ → ℕ
-pickN true a b = a
-pickN false a b = b
-
 -- the corner after that of the face f which is the vertex p: `next_ccw_pt_id`
 unfoldable pub nextCcwPtId : List ℕ → ℕ → ℕ → ℕ
-nextCcwPtId pts f p = pickN (eqb (getD pts (f * 3 + 0) 0) p) 1 (pickN (eqb (getD pts (f * 3 + 1) 0) p) 2 0)
+nextCcwPtId pts f p = cond (eqb (getD pts (f * 3 + 0) 0) p) 1 (cond (eqb (getD pts (f * 3 + 1) 0) p) 2 0)
 
 -- the question to the neighbour of the face f at its corner k
 unfoldable pub facing : List ℕ → List ℕ → ℕ → ℕ → Question
