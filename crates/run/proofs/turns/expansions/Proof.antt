@@ -20,6 +20,10 @@ ended c = c .before .before .before .before .before .before .before .before .bef
 abbrev turned : tie.After-known-told2 Inv-loop μ-loop → tie.After-next-turn Inv-loop μ-loop
 turned c = c .before .before .before .before .before .before .before .before .before .before .before .before .before .before .before .before .before .before .before .before .before
 
+-- where the turn began
+abbrev began : tie.After-next-turn Inv-loop μ-loop → tie.At-loop Inv-loop μ-loop
+began c = c .before .before .before .before .before .before .before .before .before .before .before
+
 returns : tie.Need-returns Inv-loop μ-loop
 returns c =
     let a = c .before .before .before .before .before .before .before .before .before .before .before .args in
@@ -72,4 +76,4 @@ returns-3 c =
     turns-done (a .pos12) (a .g1) (a .g2) (a .rooms) (a .tol) (a .vertices .now) (a .pts .now) (a .adj .now) (a .nums .now) (a .dead .now) (a .edge-face .now) (a .edge-corner .now) (a .heap-face .now) (a .heap-key .now) (a .start) (at-loop .loop .inv) (at-loop-test .loop-test .left) (c .answer-of .result) (c .answer-of .ensures)
 
 pub expansions-spec : {M : Type 1} → statement M
-expansions-spec = tie.close (tie.spec Inv-loop μ-loop returns (λ c κs. tt) loop-holds next-turn-requires (λ c. search needs) (λ c. ended c .next-turn .kept .0 ∙ ended c .before .before .before .before .before .before .before .before .before .before .before .loop .inv .sameVertices) (λ c. ended c .next-turn .kept .1 .0 ∙ ended c .before .before .before .before .before .before .before .before .before .before .before .loop .inv .samePts) (λ c. ended c .next-turn .kept .1 .1 .0 ∙ ended c .before .before .before .before .before .before .before .before .before .before .before .loop .inv .sameAdj) (λ c. ended c .next-turn .kept .1 .1 .1 .0 ∙ ended c .before .before .before .before .before .before .before .before .before .before .before .loop .inv .sameNums) (λ c. ended c .next-turn .kept .1 .1 .1 .1 .0 ∙ ended c .before .before .before .before .before .before .before .before .before .before .before .loop .inv .sameDead) (λ c. ended c .next-turn .kept .1 .1 .1 .1 .1 .0 ∙ ended c .before .before .before .before .before .before .before .before .before .before .before .loop .inv .sameEdgeFaces) (λ c. ended c .next-turn .kept .1 .1 .1 .1 .1 .1 .0 ∙ ended c .before .before .before .before .before .before .before .before .before .before .before .loop .inv .sameEdgeCorners) (λ c. ended c .next-turn .kept .1 .1 .1 .1 .1 .1 .1 .0 ∙ ended c .before .before .before .before .before .before .before .before .before .before .before .loop .inv .sameFaces) (λ c. ended c .next-turn .kept .1 .1 .1 .1 .1 .1 .1 .1 .0 ∙ ended c .before .before .before .before .before .before .before .before .before .before .before .loop .inv .sameKeys) returns-2 (λ c. search needs) sub-left loop-less loop-again (λ c κs. tt) (λ c. c .before .before .before .before .before .loop .inv .sameVertices) (λ c. c .before .before .before .before .before .loop .inv .samePts) (λ c. c .before .before .before .before .before .loop .inv .sameAdj) (λ c. c .before .before .before .before .before .loop .inv .sameNums) (λ c. c .before .before .before .before .before .loop .inv .sameDead) (λ c. c .before .before .before .before .before .loop .inv .sameEdgeFaces) (λ c. c .before .before .before .before .before .loop .inv .sameEdgeCorners) (λ c. c .before .before .before .before .before .loop .inv .sameFaces) (λ c. c .before .before .before .before .before .loop .inv .sameKeys) returns-3)
+expansions-spec = tie.close (tie.spec Inv-loop μ-loop returns (λ c κs. tt) loop-holds next-turn-requires (λ c. search needs) (λ c. ended c .next-turn .kept .0 ∙ began (ended c) .loop .inv .sameVertices) (λ c. ended c .next-turn .kept .1 .0 ∙ began (ended c) .loop .inv .samePts) (λ c. ended c .next-turn .kept .1 .1 .0 ∙ began (ended c) .loop .inv .sameAdj) (λ c. ended c .next-turn .kept .1 .1 .1 .0 ∙ began (ended c) .loop .inv .sameNums) (λ c. ended c .next-turn .kept .1 .1 .1 .1 .0 ∙ began (ended c) .loop .inv .sameDead) (λ c. ended c .next-turn .kept .1 .1 .1 .1 .1 .0 ∙ began (ended c) .loop .inv .sameEdgeFaces) (λ c. ended c .next-turn .kept .1 .1 .1 .1 .1 .1 .0 ∙ began (ended c) .loop .inv .sameEdgeCorners) (λ c. ended c .next-turn .kept .1 .1 .1 .1 .1 .1 .1 .0 ∙ began (ended c) .loop .inv .sameFaces) (λ c. ended c .next-turn .kept .1 .1 .1 .1 .1 .1 .1 .1 .0 ∙ began (ended c) .loop .inv .sameKeys) returns-2 (λ c. search needs) sub-left loop-less loop-again (λ c κs. tt) (λ c. c .before .before .before .before .before .loop .inv .sameVertices) (λ c. c .before .before .before .before .before .loop .inv .samePts) (λ c. c .before .before .before .before .before .loop .inv .sameAdj) (λ c. c .before .before .before .before .before .loop .inv .sameNums) (λ c. c .before .before .before .before .before .loop .inv .sameDead) (λ c. c .before .before .before .before .before .loop .inv .sameEdgeFaces) (λ c. c .before .before .before .before .before .loop .inv .sameEdgeCorners) (λ c. c .before .before .before .before .before .loop .inv .sameFaces) (λ c. c .before .before .before .before .before .loop .inv .sameKeys) returns-3)
