@@ -1,10 +1,6 @@
 -- Laws of the definitions, for the proofs of this crate and of those that call it.
 pub mod Groups
-pub mod RoundTrip
 pub mod Parts
-pub mod RecordTrip
-pub mod Encodings
 pub mod Streams
 pub mod Shifts
 pub mod Examples
-pub mod Written

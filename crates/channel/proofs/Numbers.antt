@@ -19,7 +19,8 @@ use Rattle.epa.specs.Final.{Final, finalBy, answered, penetration}
 use Rattle.lines.specs.declared.line.Counts.{Counts}
 use Rattle.lines.specs.declared.line.Outcome.{Outcome}
 use Rattle.lines.specs.Lines.{outcomeNumber}
-use Rattle.channel.specs.Channel.{countsOf, endedAs, outcomeOf, distance, byResult, separated}
+use Rattle.outcome.specs.Outcome.{countsOf, endedAs, outcomeOf}
+use Rattle.channel.specs.Channel.{distance, byResult, separated}
 
 -- the number of a run of GJK, and of the polytope's where it is one
 abbrev pub numberBy : GJKResult → End → ℕ

@@ -18,17 +18,11 @@ use Rattle.gjk.specs.declared.rounds.GJKResult.{GJKResult}
 use Rattle.gjk.specs.declared.rounds.GJKResult.the-variants.{Intersection}
 use Rattle.gjk.specs.declared.rounds.Gjk.{Gjk}
 use Rattle.gjk.specs.Gjk.{closestPoints}
-use Rattle.polytope.specs.declared.types.End.{End}
 use Rattle.epa.specs.declared.types.Answer.{Answer}
 use Rattle.epa.specs.Final.{Final, finalBy, answered, penetration}
-use Rattle.lines.specs.declared.line.Counts.{Counts}
 use Rattle.lines.specs.declared.line.Outcome.{Outcome}
-use Rattle.channel.specs.Channel.{countsOf, endedAs, outcomeOf, startOf, distance, byResult, separatedBy, separated}
-
--- the outcome of a run that ended so
-pub told-as : (x : Answer) (e : End) (c : Counts) → x .end ≡ e → c ≡ countsOf (x .counts) → endedAs e c ≡ outcomeOf x
-unfolding outcomeOf
-told-as x e c is counted = ap (endedAs e) counted ∙ sym (ap (λ (t : End). endedAs t (countsOf (x .counts))) is)
+use Rattle.outcome.specs.Outcome.{outcomeOf}
+use Rattle.channel.specs.Channel.{startOf, distance, byResult, separatedBy, separated}
 
 -- the simplex that GJK starts from
 pub started : (m : Pose) (g1 g2 : Shape) (dir : Vec3) (p : Vertex) (x : VoronoiSimplex) (y : Altered) → p ≡ fromShapes binary32 m g1 g2 dir → x ≡ newSimplex → y ≡ resetSimplex x p

@@ -15,31 +15,10 @@ use Rattle.gjk.specs.declared.rounds.GJKResult.{GJKResult}
 use Rattle.gjk.specs.declared.rounds.GJKResult.the-variants as Gjk
 use Rattle.gjk.specs.declared.rounds.Gjk.{Gjk}
 use Rattle.gjk.specs.Gjk.{closestPoints}
-use Rattle.polytope.specs.declared.types.End.{End}
-use Rattle.polytope.specs.declared.types.End.the-variants as End
-use Rattle.epa.specs.declared.types.Answer.{Answer}
-use Rattle.epa.specs.declared.types.Counts as Epa
 use Rattle.epa.specs.Final.{Final, finalBy, answered, penetration}
-use Rattle.lines.specs.declared.line.Counts.{Counts}
 use Rattle.lines.specs.declared.line.Outcome.{Outcome}
 use Rattle.lines.specs.declared.line.Outcome.the-variants as Told
-
--- ---- the run of the polytope, told as an outcome
-
-abbrev pub countsOf : Epa.Counts → Counts
-countsOf c = record { expansions = c .expansions; made = c .«faces_made»; live = c .«faces_live»; edges = c .«most_edges» }
-
--- letters P, N, X and R
-abbrev pub endedAs : End → Counts → Outcome
-endedAs (End.Answers why p1 p2 n) c = Told.Penetration p1 p2 n c
-endedAs (End.Nothing why) c = Told.NoAnswer c
-endedAs (End.Panics site) c = Told.Panic
-endedAs (End.NoRoom store) c = Told.NoPlace c
-
-unfoldable pub outcomeOf : Answer → Outcome
-outcomeOf x = endedAs (x .end) (countsOf (x .counts))
-
--- ---- the channel
+use Rattle.outcome.specs.Outcome.{outcomeOf}
 
 -- a new simplex, reset to the support point of the start direction
 unfoldable pub startOf : Pose → Shape → Shape → Vec3 → VoronoiSimplex

@@ -1,77 +1,15 @@
 // The separation channel: from two shapes and the pose of the second in the frame of the first, how far apart they are by
 // GJK, and where they meet, how deep by the expanding polytope. The answer is what a record's line tells.
 ghost use mathlib.Core.Path.{_≡_};
-ghost use Rattle.epa.specs.Final.{finalBy, answered, penetration};
-ghost use Rattle.channel.specs.Channel.{countsOf, outcomeOf, startOf, separated};
+ghost use Rattle.epa.specs.Final.{finalBy};
+ghost use Rattle.channel.specs.Channel.{startOf, separated};
 use gjk::GJKResult;
 use lines::Outcome;
-use polytope::End;
+use outcome::outcome_of;
 use shape::Shape;
 use simplex::VoronoiSimplex;
 use vector::Pose;
 use vector::Vec3;
-
-fn counts_of(c: epa::Counts) -> lines::Counts
-    ensures { λ r. ⌜ r ≡ countsOf c ⌝ }
-{
-    lines::Counts {
-        expansions: c.expansions,
-        made: c.faces_made,
-        live: c.faces_live,
-        edges: c.most_edges,
-    }
-}
-
-// Of a run of the polytope.
-fn outcome_of(answer: epa::Answer) -> Outcome
-    ensures { λ r. ⌜ r ≡ outcomeOf answer ⌝ }
-{
-    let end = answer.end;
-    let counts = answer.counts;
-    let told = counts_of(counts);
-    match end {
-        End::Answers(_, p1, p2, normal) => Outcome::Penetration(p1, p2, normal, told),
-        End::Nothing(_) => Outcome::NoAnswer(told),
-        End::Panics(_) => Outcome::Panic,
-        End::NoRoom(_) => Outcome::NoPlace(told),
-    }
-}
-
-// Where the shapes meet: the run of the polytope, from the simplex that GJK left.
-fn met(
-    pos12: Pose,
-    g1: Shape,
-    g2: Shape,
-    simplex: VoronoiSimplex,
-    vertices: &mut [f32],
-    pts: &mut [usize],
-    adj: &mut [usize],
-    nums: &mut [f32],
-    dead: &mut [u8],
-    edge_face: &mut [usize],
-    edge_corner: &mut [usize],
-    heap_face: &mut [usize],
-    heap_key: &mut [f32],
-) -> Outcome
-    ensures { λ r. ⌜ finalBy r (now (vertices .exit)) (now (pts .exit)) (now (adj .exit)) (now (nums .exit)) (now (dead .exit)) (now («edge_face» .exit)) (now («edge_corner» .exit)) (now («heap_face» .exit)) (now («heap_key» .exit)) ≡ answered outcomeOf (penetration pos12 g1 g2 simplex (now (vertices .entry)) (now (pts .entry)) (now (adj .entry)) (now (nums .entry)) (now (dead .entry)) (now («edge_face» .entry)) (now («edge_corner» .entry)) (now («heap_face» .entry)) (now («heap_key» .entry))) ⌝ }
-{
-    let answer = epa::closest_points(
-        pos12,
-        g1,
-        g2,
-        simplex,
-        vertices,
-        pts,
-        adj,
-        nums,
-        dead,
-        edge_face,
-        edge_corner,
-        heap_face,
-        heap_key,
-    );
-    outcome_of(answer)
-}
 
 // A new simplex, reset to the support point of `dir`. It is a simplex, so that the reset is not refused.
 fn start_of(pos12: Pose, g1: Shape, g2: Shape, dir: Vec3) -> VoronoiSimplex
@@ -108,21 +46,24 @@ pub fn separate(
     let result = run.result;
     let left = run.simplex;
     match result {
-        GJKResult::Intersection => met(
-            pos12,
-            g1,
-            g2,
-            left,
-            vertices,
-            pts,
-            adj,
-            nums,
-            dead,
-            edge_face,
-            edge_corner,
-            heap_face,
-            heap_key,
-        ),
+        GJKResult::Intersection => {
+            let answer = epa::closest_points(
+                pos12,
+                g1,
+                g2,
+                left,
+                vertices,
+                pts,
+                adj,
+                nums,
+                dead,
+                edge_face,
+                edge_corner,
+                heap_face,
+                heap_key,
+            );
+            outcome_of(answer)
+        }
         GJKResult::ClosestPoints(p1, p2, normal) => Outcome::ClosestPoints(p1, p2, normal),
         GJKResult::Proximity(normal) => Outcome::Proximity(normal),
         GJKResult::NoIntersection(normal) => Outcome::NoIntersection(normal),

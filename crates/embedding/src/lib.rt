@@ -6,117 +6,20 @@ ghost use Prim.Native.Nat.{_≤_};
 ghost use lib.ListN.{length, take};
 ghost use Rattle.epa.specs.Final.{finalBy};
 ghost use Rattle.epa_lent.specs.Lent.{finalEdges};
-ghost use Rattle.embedding.specs.Embedding.{shapeOf, answerWith, countsOf, answerOf, malformed, votedOf, ran, ranEdges};
+ghost use Rattle.answers.specs.Answers.{shapeOf, votedOf};
+ghost use Rattle.embedding.specs.Embedding.{ran, ranEdges};
+use answers::MaybeShape;
+use answers::ShapeRecord;
+use answers::Voted;
+use answers::answer_of;
+use answers::malformed_answer;
+use answers::shape_of;
+use answers::voted_of;
 use edges::Edge;
 use edges::Rows;
-use lines::Outcome;
-use shape::Shape;
 use vector::Pose;
 use vector::Vec3;
 use vote::Answer;
-use vote::Counts;
-use vote::Verdict;
-
-// Document 01's kind of a shape, and its numbers in their order; those that the kind hasn't got are not read.
-#[repr(C)]
-pub struct ShapeRecord {
-    pub kind: u32,
-    pub p: Vec3,
-    pub q: Vec3,
-    pub r: Vec3,
-}
-
-pub enum MaybeShape {
-    Some(Shape),
-    None,
-}
-
-// Of three answers: document 01's number, 0 or 5, the odd channel's number, and the answer.
-#[repr(C)]
-pub struct Voted {
-    pub number: u32,
-    pub odd: usize,
-    pub answer: Answer,
-}
-
-fn shape_of(g: ShapeRecord) -> MaybeShape
-    ensures { λ r. ⌜ r ≡ shapeOf g ⌝ }
-{
-    let p = g.p;
-    let q = g.q;
-    let r = g.r;
-    let kind = g.kind;
-    if kind == 0 {
-        return MaybeShape::Some(Shape::Ball(p.x));
-    }
-    if kind == 1 {
-        return MaybeShape::Some(Shape::Cuboid(p.x, p.y, p.z));
-    }
-    if kind == 2 {
-        return MaybeShape::Some(Shape::Capsule(p.x, p.y, p.z, q.x, q.y, q.z, r.x));
-    }
-    if kind == 3 {
-        return MaybeShape::Some(Shape::Triangle(p.x, p.y, p.z, q.x, q.y, q.z, r.x, r.y, r.z));
-    }
-    MaybeShape::None
-}
-
-fn answer_with(outcome: u8, point1: Vec3, point2: Vec3, normal: Vec3, counts: Counts) -> Answer
-    ensures { λ r. ⌜ r ≡ answerWith outcome point1 point2 normal counts ⌝ }
-{
-    Answer {
-        outcome,
-        point1,
-        point2,
-        normal,
-        counts,
-    }
-}
-
-fn counts_of(c: lines::Counts) -> Counts
-    ensures { λ r. ⌜ r ≡ countsOf c ⌝ }
-{
-    Counts {
-        expansions: c.expansions,
-        made: c.made,
-        live: c.live,
-        edges: c.edges,
-    }
-}
-
-fn no_counts() -> Counts
-    ensures { λ r. ⌜ r ≡ Rattle.embedding.specs.Embedding.noCounts ⌝ }
-{
-    Counts {
-        expansions: 0,
-        made: 0,
-        live: 0,
-        edges: 0,
-    }
-}
-
-// A direction alone stands where the normal does.
-fn answer_of(outcome: Outcome) -> Answer
-    ensures { λ r. ⌜ r ≡ answerOf outcome ⌝ }
-{
-    let zero = Vec3::ZERO;
-    match outcome {
-        Outcome::ClosestPoints(a, b, n) => answer_with(0, a, b, n, no_counts()),
-        Outcome::Proximity(n) => answer_with(1, zero, zero, n, no_counts()),
-        Outcome::NoIntersection(n) => answer_with(2, zero, zero, n, no_counts()),
-        Outcome::Penetration(a, b, n, c) => answer_with(3, a, b, n, counts_of(c)),
-        Outcome::NoAnswer(c) => answer_with(4, zero, zero, zero, counts_of(c)),
-        Outcome::Panic => answer_with(5, zero, zero, zero, no_counts()),
-        Outcome::NoPlace(c) => answer_with(6, zero, zero, zero, counts_of(c)),
-    }
-}
-
-// The answer to a kind above 3, which no channel gives.
-fn malformed_answer() -> Answer
-    ensures { λ r. ⌜ r ≡ malformed ⌝ }
-{
-    answer_with(7, Vec3::ZERO, Vec3::ZERO, Vec3::ZERO, no_counts())
-}
 
 // The channel over two number slices, once both kinds are known.
 fn run_columns(
@@ -261,16 +164,5 @@ pub extern "C" fn separation_run(
 pub extern "C" fn separation_vote(a: Answer, b: Answer, c: Answer) -> Voted
     ensures { λ r. ⌜ r ≡ votedOf (voteOf a b c) ⌝ }
 {
-    match vote::vote(a, b, c) {
-        Verdict::Agreed { answer, odd } => Voted {
-            number: 0,
-            odd,
-            answer,
-        },
-        Verdict::Refused => Voted {
-            number: 5,
-            odd: 0,
-            answer: answer_with(0, Vec3::ZERO, Vec3::ZERO, Vec3::ZERO, no_counts()),
-        },
-    }
+    voted_of(vote::vote(a, b, c))
 }

@@ -1,6 +1,6 @@
 -- A store of 206 records suffices: `never-full`, of a run over at least so many records, says that it is not refused for a place among them. So the places beyond, which the run is not handed, are never asked for.
 -- It is the polytope's `demand-3`: a run ends, of from 0 to 4 starting faces and at most 101 expansions, and is refused for a place among the edges only where there are fewer than the faces and twice the expansions. Assumes nothing.
-use mathlib.Core.Path.{_≡_, sym, ap, subst, _∙_}
+use mathlib.Core.Path.{_≡_, sym, subst, _∙_}
 use mathlib.Core.Bool.{Bool, true, false, cond}
 use mathlib.Core.List.{List, map}
 use Prim.Native.Nat.{ℕ, _≤_}

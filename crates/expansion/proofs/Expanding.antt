@@ -1,8 +1,7 @@
 -- The steps of an expansion, told of the lists and the answer that the code leaves. Assumes nothing.
 use mathlib.Core.Path.{_≡_, refl, sym, ap, subst, _∙_}
 use mathlib.Core.List.{List}
-use Prim.Native.Nat.{ℕ, _+_, _-_, _*_, _≤_}
-use native.Mathlib.Omega.{arith}
+use Prim.Native.Nat.{ℕ, _+_, _-_, _*_}
 use lib.ListN.{set}
 use lib.Ieee.{Float, binary32}
 use borrow.Author.Tests.{eq-eqb, ne-eqb}
@@ -19,7 +18,7 @@ use Rattle.polytope.specs.declared.types.Step.the-variants.{Onward, Ended}
 use Rattle.polytope.specs.declared.types.WalkAnswer.{WalkAnswer}
 use Rattle.polytope.specs.declared.types.WalkAnswer.the-variants.{Done, NoRoom}
 use Rattle.polytope.specs.Walk.{Walked, walked, edges, facing, passOf}
-use Rattle.polytope.specs.Polytope.{State, Out, Nil, World, ended, stateOf, stepOut, worldOf, blank, clearEdges, closeRing, link, growAll, regrow, delete, meshOf, passed, silhouette, expand, next, stopIf, put, look, _>>=_, _>>_}
+use Rattle.polytope.specs.Polytope.{State, Out, Nil, World, stateOf, stepOut, worldOf, blank, clearEdges, closeRing, link, regrow, delete, meshOf, passed, silhouette, expand, next, stopIf, put, look, _>>=_, _>>_}
 use Rattle.pushes.specs.Contracts.{heapRoom}
 use Rattle.growth.specs.Contracts.{GrowsAll, Silhouettes}
 use Rattle.expansion.specs.Contracts.{Clears, Closes, Regrows, Expands}

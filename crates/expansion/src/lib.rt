@@ -10,10 +10,10 @@ use polytope::Rooms;
 use polytope::Run;
 use polytope::Step;
 use polytope::Turn;
-use silhouette::before;
-use silhouette::clear;
-use silhouette::set_dead;
-use silhouette::set_three_at;
+use stores::before;
+use stores::clear;
+use stores::set_dead;
+use stores::set_three_at;
 
 // `self.silhouette.clear()`: no edge is left.
 fn clear_edges(edge_face: &mut [usize], edge_corner: &mut [usize], run: Run) -> Run

@@ -1,3 +1,2 @@
--- What the functions' proofs cite: steps in pairs, and the steps of the first faces.
-pub mod Pairing
+-- What the functions' proofs cite: the steps of the first four faces.
 pub mod Starting

@@ -4,7 +4,7 @@ ghost use mathlib.Core.Bool.{cond};
 ghost use lib.Ieee.{binary32};
 ghost use Rattle.polytope.specs.Polytope.{exchanged, windsInward};
 ghost use Rattle.first_faces.specs.Contracts.{FourFaces, QueuesStart, QueuesTwo, QueuesFour, StartsFour};
-use crate::pairs::push_two;
+use first_two::push_two;
 use polytope::End;
 use polytope::Lost;
 use polytope::Made;
@@ -14,9 +14,9 @@ use polytope::Step;
 use polytope::Three;
 use pushes::made_of;
 use pushes::queue_face;
-use silhouette::normal_of;
-use silhouette::put_vertex;
-use silhouette::vertex_at;
+use stores::normal_of;
+use stores::put_vertex;
+use stores::vertex_at;
 
 // Whether the faces of four vertices would have their normals inward.
 fn winds_inward(vertices: &[f32]) -> bool

@@ -4,15 +4,13 @@ ghost use mathlib.Core.Path.{_≡_};
 ghost use Rattle.first_faces.specs.Contracts.{StartsFaces};
 
 mod four;
-mod pairs;
-mod two;
 
+use first_two::start_two;
 use four::start_four;
 use polytope::Rooms;
 use polytope::Run;
 use polytope::Step;
 use shape::Shape;
-use two::start_two;
 use vector::Pose;
 
 // The first faces.

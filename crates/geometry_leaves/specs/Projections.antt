@@ -13,10 +13,10 @@ use Rattle.projection.specs.declared.triangle.TrianglePointLocation.the-variant
 use Rattle.projection.specs.declared.triangle.TriangleProjection.{TriangleProjection}
 use Rattle.projection.specs.declared.triangle.BarycentricCoordinates.{BarycentricCoordinates}
 use Rattle.projection.specs.Triangle.{barycentricNumber, barycentricNone, barycentricValues}
-use Rattle.projection.specs.declared.tetrahedron.TetrahedronPointLocation.{TetrahedronPointLocation}
-use Rattle.projection.specs.declared.tetrahedron.TetrahedronPointLocation.the-variants as OfTetrahedron
-use Rattle.projection.specs.declared.tetrahedron.TetrahedronProjection.{TetrahedronProjection}
-use Rattle.projection.specs.Tetrahedron.{tetrahedronNumber, tetrahedronValues}
+use Rattle.tetrahedron.specs.declared.TetrahedronPointLocation.{TetrahedronPointLocation}
+use Rattle.tetrahedron.specs.declared.TetrahedronPointLocation.the-variants as OfTetrahedron
+use Rattle.tetrahedron.specs.declared.TetrahedronProjection.{TetrahedronProjection}
+use Rattle.tetrahedron.specs.Tetrahedron.{tetrahedronNumber, tetrahedronValues}
 use Rattle.geometry_leaves.specs.Refused.{refusedBy}
 use Rattle.geometry_leaves.specs.declared.projections.Placed.{Placed}
 use Rattle.geometry_leaves.specs.declared.projections.Weights.{Weights}

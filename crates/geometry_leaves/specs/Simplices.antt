@@ -3,14 +3,14 @@ use Prim.Native.Nat.{ℕ}
 use mathlib.Core.Bool.{cond}
 use Rattle.simplex.specs.declared.operations.Altered.{Altered}
 use Rattle.simplex.specs.declared.operations.Added.{Added}
-use Rattle.simplex.specs.declared.operations.Reduced.{Reduced}
+use Rattle.reduction.specs.declared.Reduced.{Reduced}
 use Rattle.simplex.specs.declared.operations.Answer.{Answer}
 use Rattle.simplex.specs.declared.operations.Number.{Number}
 use Rattle.simplex.specs.declared.operations.Size.{Size}
 use Rattle.simplex.specs.declared.operations.Corner.{Corner}
-use Rattle.simplex.specs.declared.operations.Projected.{Projected}
+use Rattle.reduction.specs.declared.Projected.{Projected}
 use Rattle.simplex.specs.Operations.{outcomeNumber, answerNumber, answerValue, numberNumber, numberValue, sizeNumber, sizeValue, cornerNumber, cornerValue}
-use Rattle.simplex.specs.Reduction.{projectedNumber, projectedValue}
+use Rattle.reduction.specs.Reduction.{projectedNumber, projectedValue}
 use Rattle.geometry_leaves.specs.Refused.{refusedBy}
 use Rattle.geometry_leaves.specs.declared.simplices.Changed.{Changed}
 use Rattle.geometry_leaves.specs.declared.simplices.MaybeNumber.{MaybeNumber}

@@ -3,17 +3,17 @@
 ghost use mathlib.Core.Path.{_≡_};
 ghost use lib.Ieee.{binary32};
 ghost use Rattle.simplex.specs.Operations.{resetSimplex, addPoint};
-ghost use Rattle.simplex.specs.Reduction.{projectOriginAndReduce};
+ghost use Rattle.reduction.specs.Reduction.{projectOriginAndReduce};
 ghost use Rattle.geometry_leaves.specs.Simplices.{alteredOver, addedOver, reducedOver};
 use crate::simplices::Changed;
 use crate::simplices::Projection;
 use crate::simplices::added_over;
 use crate::simplices::altered_over;
 use crate::simplices::reduced_over;
+use reduction::Reduced;
 use shape::Vertex;
 use simplex::Added;
 use simplex::Altered;
-use simplex::Reduced;
 use simplex::VoronoiSimplex;
 
 fn reset_lent(s: VoronoiSimplex, pt: Vertex) -> Altered

@@ -6,18 +6,18 @@ ghost use Rattle.projection.specs.Inside.{withinOrigin};
 ghost use Rattle.projection.specs.Relative.{relativeEq};
 ghost use Rattle.projection.specs.Segment.{projectSegment};
 ghost use Rattle.projection.specs.Triangle.{projectTriangle, isAffinelyDependent, barycentricCoordinates};
-ghost use Rattle.projection.specs.Tetrahedron.{projectTetrahedron};
+ghost use Rattle.tetrahedron.specs.Tetrahedron.{projectTetrahedron};
 ghost use Rattle.geometry_leaves.specs.Projections.{placedBy, segmentBy, triangleBy, tetrahedronBy};
 ghost use Rattle.geometry_leaves.specs.Projections.{segmentPlaced, trianglePlaced, tetrahedronPlaced, locationOf, weightsOf};
 use projection::BarycentricCoordinates;
 use projection::Segment;
 use projection::SegmentPointLocation;
 use projection::SegmentProjection;
-use projection::Tetrahedron;
-use projection::TetrahedronPointLocation;
-use projection::TetrahedronProjection;
 use projection::Triangle;
 use projection::TrianglePointLocation;
+use tetrahedron::Tetrahedron;
+use tetrahedron::TetrahedronPointLocation;
+use tetrahedron::TetrahedronProjection;
 use vector::Vec3;
 
 // A projection: its point; its location's kind (0 vertex, 1 edge, 2 face, 3 solid), number and weights,

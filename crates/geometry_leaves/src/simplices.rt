@@ -4,8 +4,10 @@ ghost use lib.Ieee.{binary32};
 ghost use Rattle.simplex.specs.Simplex.{newSimplex, isSimplex};
 ghost use Rattle.simplex.specs.Operations.{swapSimplex, resetSimplex, addPoint, projCoord, cornerPoint, prevProjCoord, prevPoint};
 ghost use Rattle.simplex.specs.Operations.{containsPoint, dimensionOf, prevDimensionOf, maxSqLen, modifyPnts, outcomeNumber};
-ghost use Rattle.simplex.specs.Reduction.{projectOriginAndReduce, projectOrigin};
+ghost use Rattle.reduction.specs.Reduction.{projectOriginAndReduce, projectOrigin};
 ghost use Rattle.geometry_leaves.specs.Simplices.{answerOver, alteredOver, addedOver, numberOver, sizeOver, cornerOver, projectedOver, reducedOver};
+use reduction::Projected;
+use reduction::Reduced;
 use shape::Vertex;
 use simplex::Added;
 use simplex::Altered;
@@ -13,8 +15,6 @@ use simplex::Answer;
 use simplex::Corner;
 use simplex::Number;
 use simplex::Outcome;
-use simplex::Projected;
-use simplex::Reduced;
 use simplex::Size;
 use simplex::VoronoiSimplex;
 use vector::Vec3;
@@ -225,14 +225,14 @@ pub extern "C" fn leaf_simplex_prev_point(s: VoronoiSimplex, i: usize) -> MaybeV
 pub extern "C" fn leaf_simplex_project_origin_and_reduce(s: VoronoiSimplex) -> Projection
     ensures { λ r. ⌜ r ≡ reducedOver (projectOriginAndReduce binary32 s) ⌝ }
 {
-    reduced_over(s.project_origin_and_reduce())
+    reduced_over(reduction::project_origin_and_reduce(s))
 }
 
 #[no_mangle]
 pub extern "C" fn leaf_simplex_project_origin(s: VoronoiSimplex) -> MaybePoint
     ensures { λ r. ⌜ r ≡ projectedOver (projectOrigin binary32 s) ⌝ }
 {
-    projected_over(s.project_origin())
+    projected_over(reduction::project_origin(s))
 }
 
 #[no_mangle]

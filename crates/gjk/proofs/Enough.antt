@@ -21,10 +21,10 @@ use Rattle.shape.specs.declared.vertex.Vertex.{Vertex}
 use Rattle.simplex.specs.declared.simplex.VoronoiSimplex.{VoronoiSimplex}
 use Rattle.simplex.specs.declared.operations.Answer.{Answer}
 use Rattle.simplex.specs.declared.operations.Answer.the-variants as Added
-use Rattle.simplex.specs.declared.operations.Projected.{Projected}
-use Rattle.simplex.specs.declared.operations.Projected.the-variants as Projection
+use Rattle.reduction.specs.declared.Projected.{Projected}
+use Rattle.reduction.specs.declared.Projected.the-variants as Projection
 use Rattle.simplex.specs.Operations.{addPoint}
-use Rattle.simplex.specs.Reduction.{projectOriginAndReduce}
+use Rattle.reduction.specs.Reduction.{projectOriginAndReduce}
 use Rattle.gjk.specs.declared.rounds.GJKResult.{GJKResult}
 use Rattle.gjk.specs.declared.rounds.GJKResult.the-variants.{Intersection, Refused}
 use Rattle.gjk.specs.declared.rounds.Round.{Round}

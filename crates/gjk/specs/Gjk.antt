@@ -21,12 +21,12 @@ use Rattle.shape.specs.Support.{fromShapes}
 use Rattle.simplex.specs.declared.simplex.VoronoiSimplex.{VoronoiSimplex}
 use Rattle.simplex.specs.declared.operations.Answer.{Answer}
 use Rattle.simplex.specs.declared.operations.Answer.the-variants as Added
-use Rattle.simplex.specs.declared.operations.Projected.{Projected}
-use Rattle.simplex.specs.declared.operations.Projected.the-variants as Projection
+use Rattle.reduction.specs.declared.Projected.{Projected}
+use Rattle.reduction.specs.declared.Projected.the-variants as Projection
 use Rattle.simplex.specs.Operations.{addPoint}
-use Rattle.simplex.specs.Reduction.{projectOriginAndReduce}
-use Rattle.gjk.specs.declared.witnesses.Witnesses.{Witnesses}
-use Rattle.gjk.specs.declared.witnesses.Witnesses.the-variants as Points
+use Rattle.reduction.specs.Reduction.{projectOriginAndReduce}
+use Rattle.witnesses.specs.declared.Witnesses.{Witnesses}
+use Rattle.witnesses.specs.declared.Witnesses.the-variants as Points
 use Rattle.gjk.specs.declared.rounds.GJKResult.{GJKResult}
 use Rattle.gjk.specs.declared.rounds.GJKResult.the-variants.{Intersection, ClosestPoints, Proximity, NoIntersection, Refused}
 use Rattle.gjk.specs.declared.rounds.Gjk.{Gjk}
@@ -35,7 +35,7 @@ use Rattle.gjk.specs.declared.rounds.Round.{Round}
 use Rattle.gjk.specs.declared.rounds.Next.{Next}
 use Rattle.gjk.specs.declared.rounds.Next.the-variants.{Onward, Ended}
 use Rattle.gjk.specs.declared.rounds.Turn.{Turn}
-use Rattle.gjk.specs.Witnesses.{resultOf}
+use Rattle.witnesses.specs.Witnesses.{resultOf}
 use Rattle.gjk.specs.Perturbed.{perturbedDir}
 
 -- ---- document 01's number of each result, 0 or refusal 2, and its values: letter D has two points and a direction, M and S a direction; what a result has not got is zeros
@@ -109,7 +109,7 @@ perturbedRound r =
       niter = r .niter;
     }
 
--- the end of a round: `old_dir = dir; proj = simplex.project_origin_and_reduce(); niter += 1`
+-- the end of a round: `old_dir = dir; proj = reduction::project_origin_and_reduce(simplex); niter += 1`
 unfoldable pub roundAfter : Round → Vec3 → Vec3 → Round
 roundAfter r proj dir =
     record {

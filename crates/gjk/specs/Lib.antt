@@ -1,4 +1,3 @@
--- What the contracts of this crate cite: witness points, the perturbed direction, and `closest_points`.
-pub mod Witnesses
+-- What the contracts of this crate cite: the perturbed direction, and `closest_points`.
 pub mod Perturbed
 pub mod Gjk

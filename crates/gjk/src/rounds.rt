@@ -7,17 +7,17 @@ ghost use Rattle.shape.specs.Support.{fromShapes};
 ghost use Rattle.gjk.specs.Gjk.{onwardWith, endedWith};
 ghost use Rattle.gjk.specs.Gjk.{turnOf, runOf, startOf, finishedBy, closestPoints};
 use crate::perturbed::perturbed_dir;
-use crate::witnesses::Witnesses;
-use crate::witnesses::result;
+use reduction::Projected;
 use shape::Shape;
 use shape::Vertex;
 use shape::from_shapes;
 use simplex::Answer;
-use simplex::Projected;
 use simplex::VoronoiSimplex;
 use vector::MaybeVec3;
 use vector::Pose;
 use vector::Vec3;
+use witnesses::Witnesses;
+use witnesses::result;
 
 // The Rust's four results, and the refusal.
 pub enum GJKResult {
@@ -130,7 +130,7 @@ fn advanced_turn(q: Query, simplex: VoronoiSimplex, r: Round, dir: Vec3, min_bou
     requires { ⌜ r .niter < 100 ⌝ }
     ensures { λ t. ⌜ t ≡ advanced binary32 (searchOf q) simplex r dir «min_bound» ⌝ }
 {
-    let reduced = simplex.project_origin_and_reduce();
+    let reduced = reduction::project_origin_and_reduce(simplex);
     let smaller = reduced.simplex;
     let projection = reduced.projection;
     let Projected::At(proj) = projection else {
@@ -296,7 +296,7 @@ fn run_of(q: Query, simplex: VoronoiSimplex, start: Round) -> Gjk
 fn start_of(simplex: VoronoiSimplex) -> Turn
     ensures { λ t. ⌜ t ≡ startOf binary32 simplex ⌝ }
 {
-    let reduced = simplex.project_origin_and_reduce();
+    let reduced = reduction::project_origin_and_reduce(simplex);
     let smaller = reduced.simplex;
     let projection = reduced.projection;
     let Projected::At(proj) = projection else {

@@ -1,6 +1,8 @@
 // The silhouette of a face, and the new faces along it (from the body of the loop of `EPA::closest_points`).
 ghost use mathlib.Core.Path.{_≡_};
 ghost use Rattle.growth.specs.Contracts.{QueuesNew, GrowsAt, Grows, GrowsAll, Silhouettes, passedRun};
+use faces::answer_of;
+use faces::facing_at;
 use polytope::End;
 use polytope::Found;
 use polytope::Lost;
@@ -15,16 +17,14 @@ use polytope::WalkAnswer;
 use pushes::made_of;
 use pushes::push_face;
 use pushes::queue_face;
-use silhouette::answer_of;
-use silhouette::at;
-use silhouette::before;
-use silhouette::dead_at;
-use silhouette::facing_at;
-use silhouette::normal_of;
 use silhouette::pass;
-use silhouette::set_three_at;
-use silhouette::three_at;
-use silhouette::vertex_at;
+use stores::at;
+use stores::before;
+use stores::dead_at;
+use stores::normal_of;
+use stores::set_three_at;
+use stores::three_at;
+use stores::vertex_at;
 
 // A new face that holds the projection is queued, unless it lies nearer than the one that is expanded.
 fn queue_new(

@@ -4,9 +4,8 @@ use lib.Ieee.{ofBits, toBits, neg, add, sub, mul, lt, le, round}
 use Rattle.number.specs.Root.{root}
 use Rattle.vector.specs.Vector.{zeroV, subV, dotV}
 use Rattle.shape.specs.Vertex.{singlePoint, vertexWithPoint}
-use Rattle.projection.specs.Tetrahedron.{differences, dots, onVertex, vertexRegion, _orElse_, orSolid, projectTetrahedron}
-use Rattle.simplex.specs.Simplex.{overwriteIn, placeIn}
-use Rattle.simplex.specs.Reduction.{tetrahedronFace, applyTetrahedron}
+use Rattle.tetrahedron.specs.Tetrahedron.{differences, dots, onVertex, vertexRegion, _orElse_, orSolid, projectTetrahedron}
+use Rattle.reduction.specs.Reduction.{overwriteIn, placeIn, tetrahedronFace, applyTetrahedron}
 use Rattle.heap.specs.Heap.{pushed, popped, settled, rise, riseIn, sink, sinkIn, greater, swap}
 use Rattle.heap.specs.Order.{orderOf, pushAll, popAll}
 use Rattle.pushes.specs.Contracts.{faceIdNew}

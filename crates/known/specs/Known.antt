@@ -10,14 +10,14 @@ use Rattle.number.specs.Root.{root}
 use Rattle.vector.specs.Vector.{vec3, zeroF, oneF, twoF, zeroV}
 use Rattle.shape.specs.declared.vertex.Vertex.{Vertex}
 use Rattle.shape.specs.Vertex.{singlePoint}
-use Rattle.projection.specs.declared.tetrahedron.Tetrahedron.{Tetrahedron}
-use Rattle.projection.specs.declared.tetrahedron.TetrahedronProjection.{TetrahedronProjection}
-use Rattle.projection.specs.declared.tetrahedron.TetrahedronProjection.the-variants.{At}
-use Rattle.projection.specs.declared.tetrahedron.TetrahedronPointLocation.the-variants.{OnVertex, OnFace}
-use Rattle.projection.specs.Tetrahedron.{projectTetrahedron}
+use Rattle.tetrahedron.specs.declared.Tetrahedron.{Tetrahedron}
+use Rattle.tetrahedron.specs.declared.TetrahedronProjection.{TetrahedronProjection}
+use Rattle.tetrahedron.specs.declared.TetrahedronProjection.the-variants.{At}
+use Rattle.tetrahedron.specs.declared.TetrahedronPointLocation.the-variants.{OnVertex, OnFace}
+use Rattle.tetrahedron.specs.Tetrahedron.{projectTetrahedron}
 use Rattle.simplex.specs.declared.simplex.VoronoiSimplex.{VoronoiSimplex}
 use Rattle.simplex.specs.Simplex.{simplexOf}
-use Rattle.simplex.specs.Reduction.{applyTetrahedron}
+use Rattle.reduction.specs.Reduction.{applyTetrahedron}
 use Rattle.heap.specs.Order.{orderOf}
 use Rattle.pushes.specs.declared.types.MaybeFaceId.the-variants.{Some, None}
 use Rattle.pushes.specs.Contracts.{faceIdNew}

@@ -1,20 +1,18 @@
 -- One expansion: the polytope stays sound, grows by no more than it may, and keeps what every move keeps. Assumes nothing.
-use mathlib.Core.Path.{_≡_, refl, ap, subst}
-use mathlib.Core.Bool.{false}
-use mathlib.Core.Option.{none, some}
+use mathlib.Core.Path.{_≡_, refl, subst}
+use mathlib.Core.Option.{some}
 use Prim.Native.Nat.{ℕ, zero, suc, _+_, _-_, _*_, _%_, _<_, _≤_}
 use native.Mathlib.Omega.{arith}
 use native.Mathlib.Decide.{ℕ-discrete}
 use lib.ListN.{getD, set}
 use lib.Seq.{getD-set-other}
-use lib.Dec.{eqb}
 use borrow.Author.Tests.{eqb-false}
 use Rattle.polytope.specs.declared.types.WalkAnswer.{WalkAnswer}
 use Rattle.polytope.specs.declared.types.WalkAnswer.the-variants.{Done, NoRoom}
 use Rattle.polytope.specs.declared.types.Made.{Made}
 use Rattle.heap.specs.Heap.{Entry, pushed, popped}
 use Rattle.polytope.specs.Walk.{Walked, walked, edges, facing, passOf}
-use Rattle.polytope.specs.Polytope.{World, State, Rooms, End, nothing, noRoom, theEdges, keyLater, Found, newFaceNearer, _>>=_, _>>_, Nil, stop, look, put, ok, stopIf, doIf, branch, withFaces, withQueue, oneMore, pushFace, liveTo, live, answerOf, answer, delete, meshOf, afterPass, passed, silhouette, link, linkedTo, Turn, queueNew, growAt, grow, growAll, clearEdges, expand, regrow, closeRing, cornerAt, madeOf, threeN}
+use Rattle.polytope.specs.Polytope.{World, State, Rooms, End, noRoom, theEdges, keyLater, Found, newFaceNearer, _>>=_, _>>_, Nil, look, put, doIf, withFaces, withQueue, oneMore, pushFace, liveTo, live, answerOf, answer, delete, meshOf, afterPass, passed, silhouette, link, linkedTo, Turn, queueNew, growAt, grow, growAll, clearEdges, expand, regrow, closeRing, cornerAt, madeOf, threeN}
 use Rattle.polytope.specs.Bounds.{AllIn, Good, Sound, bound, Within, Tight, with-all, Ended, FromPoint}
 use Rattle.polytope.proofs.Basics.{at-set, in-set, all-set, all-as, all-three, but-second, all-none, live-delete, live-push}
 use Rattle.polytope.proofs.Sizes.{bound-suc}

@@ -1,6 +1,6 @@
 -- The numbers of demand 3. Assumes nothing.
 use mathlib.Core.Path.{_≡_}
-use Prim.Native.Nat.{ℕ, zero, suc, _+_, _*_, _≤_}
+use Prim.Native.Nat.{ℕ, suc, _+_, _*_, _≤_}
 use native.Mathlib.Nat.{mul-le-mul, suc-mul, mul-suc}
 use native.Mathlib.Omega.{arith}
 use Rattle.polytope.specs.Bounds.{bound}

@@ -1,5 +1,5 @@
 -- The start, and the whole run: demand 3, with what every move keeps. Assumes nothing.
-use mathlib.Core.Path.{_≡_, refl, sym, ap, subst}
+use mathlib.Core.Path.{_≡_, refl, sym, subst}
 use mathlib.Core.Bool.{Bool, true, false, cond, not, _&&_}
 use mathlib.Core.Option.{Option, none, some}
 use Prim.Native.Nat.{ℕ, zero, suc, _+_, _*_, _<_, _≤_}
@@ -10,7 +10,7 @@ use borrow.Author.Tests.{eqb-true, eqb-false, leb-true, not-false}
 use Rattle.shape.specs.declared.vertex.Vertex.{Vertex}
 use Rattle.polytope.specs.declared.types.Made.{Made}
 use Rattle.heap.specs.Heap.{Heap, Entry, pushed}
-use Rattle.polytope.specs.Polytope.{World, State, Rooms, VoronoiSimplex, Verts, Best, End, nothing, noRoom, Store, theVerts, theFaces, theEdges, theHeap, keyAtStart, Out, onward, ended, Nil, look, put, withFaces, withQueue, oneMore, liveTo, live, threeN, pushPoints, firstFar, second, bootstrap, queueStart, startFour, fourFaces, queueFour, third, twoFaces, startTwo, startVertices, startFaces, expansions, turns, begin, epa, fresh, roomsOf, runEpa, vertexAt}
+use Rattle.polytope.specs.Polytope.{World, State, Rooms, VoronoiSimplex, Best, End, noRoom, Store, theVerts, theFaces, theEdges, theHeap, keyAtStart, Out, onward, ended, Nil, withFaces, withQueue, oneMore, liveTo, live, threeN, pushPoints, firstFar, second, bootstrap, queueStart, startFour, fourFaces, queueFour, third, twoFaces, startTwo, startVertices, startFaces, expansions, turns, begin, epa, fresh, roomsOf, runEpa, vertexAt}
 use Rattle.polytope.specs.Bounds.{AllIn, Good, Between, started, expanded, bound, Within, Tight, Starting, without, with-all, Ended, Ends, facesAtStart, Ample}
 use Rattle.polytope.proofs.Basics.{all-as, all-three, all-none, live-push}
 use Rattle.polytope.proofs.Sizes.{bound-zero, bound-most}

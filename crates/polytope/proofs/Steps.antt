@@ -1,15 +1,14 @@
 -- What a step of the run leaves: P of the value and the stores if it goes on, E of the end and the stores if the run ends. Assumes nothing.
-use mathlib.Core.Path.{_≡_, refl, ap, subst}
+use mathlib.Core.Path.{_≡_, refl, subst}
 use mathlib.Core.Bool.{Bool, true, false}
 use mathlib.Core.List.{List}
 use Prim.Native.Nat.{ℕ, _+_, _<_, _≤_}
-use lib.Dec.{leb}
 use lib.Ieee.{Float}
 use borrow.Author.Tests.{leb-true, leb-false}
 use Rattle.shape.specs.declared.vertex.Vertex.{Vertex}
 use Rattle.polytope.specs.declared.types.Made.{Made}
-use Rattle.heap.specs.Heap.{Heap, pushed}
-use Rattle.polytope.specs.Polytope.{State, Rooms, Verts, End, nothing, noRoom, theVerts, theFaces, theHeap, Lost, Out, onward, ended, Act, next, _>>=_, _>>_, Nil, pure, stop, look, put, ok, stopIf, doIf, branch, withVerts, withFaces, withQueue, putVertex, oneMore, pushVertex, pushFace, queueFace, link, linkedTo}
+use Rattle.heap.specs.Heap.{pushed}
+use Rattle.polytope.specs.Polytope.{State, Rooms, End, nothing, noRoom, theVerts, theFaces, theHeap, Lost, Out, onward, ended, Act, next, _>>=_, _>>_, Nil, pure, stop, look, put, ok, stopIf, doIf, branch, withVerts, withFaces, withQueue, putVertex, oneMore, pushVertex, pushFace, queueFace, link, linkedTo}
 
 abbrev Holds : {A : Type 0} → (A → State → Type 0) → (End → State → Type 0) → Out A → Type 0
 Holds P E (onward a s) = P a s

@@ -1,5 +1,5 @@
 -- The expansions, one after another: each keeps what every move keeps. Assumes nothing.
-use mathlib.Core.Path.{_≡_, refl, ap, _∙_}
+use mathlib.Core.Path.{_≡_, refl, _∙_}
 use mathlib.Core.Bool.{Bool, true, false, cond}
 use mathlib.Core.Option.{Option, none, some}
 use Prim.Native.Nat.{ℕ, zero, suc, _+_, _<_, _≤_}
@@ -10,7 +10,7 @@ use Rattle.vector.specs.Vector.{dotV}
 use Rattle.shape.specs.declared.vertex.Vertex.{Vertex}
 use borrow.Author.Tests.{eqb-true}
 use Rattle.heap.specs.Heap.{Entry, popped}
-use Rattle.polytope.specs.Polytope.{World, State, Rooms, End, Found, _>>=_, _>>_, pure, look, put, withQueue, live, normalAt, answerOf, answer, popEntry, popLive, converged, stuck, heapEmpty, enoughTurns, Best, bettered, complete, turn, advance, turnIf, nextTurn, turns}
+use Rattle.polytope.specs.Polytope.{World, State, Rooms, End, Found, _>>=_, _>>_, pure, look, put, withQueue, normalAt, answerOf, answer, popEntry, popLive, converged, stuck, heapEmpty, enoughTurns, Best, bettered, complete, turn, advance, turnIf, nextTurn, turns}
 use Rattle.polytope.specs.Bounds.{Good, bound, Within, Tight, with-all, FromPoint}
 use Rattle.polytope.proofs.Basics.{all-as}
 use Rattle.polytope.proofs.Sizes.{bound-suc}

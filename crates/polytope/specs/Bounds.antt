@@ -3,11 +3,10 @@ use mathlib.Core.Path.{_≡_}
 use Prim.Native.Nat.{ℕ, suc, _+_, _*_, _<_, _≤_}
 use mathlib.Core.Bool.{cond}
 use mathlib.Core.List.{List}
-use mathlib.Core.Option.{Option}
 use lib.ListN.{getD}
 use lib.Dec.{eqb}
 use lib.Ieee.{Float}
-use Rattle.heap.specs.Heap.{Heap, Entry}
+use Rattle.heap.specs.Heap.{Heap}
 use Rattle.polytope.specs.Polytope.{World, State, Rooms, Best, startVertices, startFaces, nextTurn, VoronoiSimplex, End, answers, nothing, panics, noRoom, Found, singlePoint, converged, stuck, newFaceNearer, enoughTurns, heapEmpty, Store, theVerts, theFaces, theEdges, theHeap, Out, onward, ended, Nil, live}
 
 -- ---- the stores

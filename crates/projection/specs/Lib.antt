@@ -1,8 +1,7 @@
--- What the contracts of this crate cite: projections on a segment, a triangle and a tetrahedron.
+-- What the contracts of this crate cite: projections on a segment and a triangle.
 pub mod Relative
 pub mod Signs
 pub mod Values
 pub mod Inside
 pub mod Segment
 pub mod Triangle
-pub mod Tetrahedron

@@ -8,6 +8,7 @@ ghost use Rattle.polytope.specs.Polytope.{oneMore, vertexAt};
 ghost use Rattle.pushes.specs.Contracts.{facesOf, faceIdNew, PushesVertex, PushesFace, QueuesFace, listOf};
 use crate::types::FaceId;
 use crate::types::MaybeFaceId;
+use faces::face_new;
 use heap::Pushed;
 use polytope::End;
 use polytope::Lost;
@@ -18,12 +19,11 @@ use polytope::Step;
 use polytope::Store;
 use polytope::Three;
 use shape::Vertex;
-use silhouette::face_new;
-use silhouette::put_made;
-use silhouette::put_vertex;
-use silhouette::set_dead;
-use silhouette::set_three_at;
-use silhouette::vertex_at;
+use stores::put_made;
+use stores::put_vertex;
+use stores::set_dead;
+use stores::set_three_at;
+use stores::vertex_at;
 
 // `Face::new` of three vertices.
 pub fn made_of(vertices: &[f32], a: usize, b: usize, c: usize) -> Made

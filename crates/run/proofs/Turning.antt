@@ -1,15 +1,13 @@
 -- The expansions one after another, told of the lists and the answers that the code leaves. Assumes nothing.
 use mathlib.Core.Path.{_≡_, refl, sym, ap, subst, _∙_}
 use mathlib.Core.List.{List}
-use mathlib.Core.Option.{Option, some, none}
+use mathlib.Core.Option.{Option}
 use Prim.Native.Nat.{ℕ, suc, _-_, _<_, _≤_}
 use native.Mathlib.Omega.{arith}
-use lib.ListN.{length, getD}
+use lib.ListN.{length}
 use lib.Ieee.{Float, binary32}
 use borrow.Author.Tests.{eq-eqb, ne-eqb}
 use Rattle.vector.specs.declared.pose.Pose.{Pose}
-use Rattle.vector.specs.Vector.{zeroF}
-use Rattle.number.specs.Constants.{largest}
 use Rattle.shape.specs.declared.shape.Shape.{Shape}
 use Rattle.heap.specs.Heap.{Entry}
 use Rattle.polytope.specs.declared.types.Run.{Run}
@@ -19,9 +17,8 @@ use Rattle.polytope.specs.declared.types.Found.the-variants.{EnoughTurns, HeapE
 use Rattle.polytope.specs.declared.types.Lost.the-variants.{NothingQueued}
 use Rattle.polytope.specs.declared.types.End.{End}
 use Rattle.polytope.specs.declared.types.End.the-variants.{Nothing}
-use Rattle.polytope.specs.declared.types.Step.{Step}
 use Rattle.polytope.specs.declared.types.Step.the-variants.{Ended}
-use Rattle.polytope.specs.Polytope.{World, State, Out, Act, Nil, stateOf, answerOf, answer, turn, turnIf, popLive, complete, nextTurn, turns, expansions, pure, stop, stopIf, next, look, put, _>>=_, _>>_}
+use Rattle.polytope.specs.Polytope.{World, Out, Act, Nil, stateOf, answerOf, answer, turn, turnIf, popLive, complete, nextTurn, turns, expansions, pure, stop, stopIf, next, look, put, _>>=_, _>>_}
 use Rattle.polytope.proofs.Steps.{Meets}
 use Rattle.pushes.specs.declared.types.FaceId.{FaceId}
 use Rattle.pushes.specs.declared.types.MaybeFaceId.{MaybeFaceId}

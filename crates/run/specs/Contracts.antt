@@ -12,12 +12,11 @@ use Rattle.vector.specs.declared.pose.Pose.{Pose}
 use Rattle.shape.specs.declared.shape.Shape.{Shape}
 use Rattle.simplex.specs.declared.simplex.VoronoiSimplex.{VoronoiSimplex}
 use Rattle.heap.specs.Heap.{Entry}
-use Rattle.polytope.specs.Polytope.{State, stateOf, stepOut, Out, onward, ended, popLive, nextTurn, expansions, epa, noneYet}
+use Rattle.polytope.specs.Polytope.{State, stateOf, stepOut, Out, onward, popLive, nextTurn, expansions, epa, noneYet}
 use Rattle.polytope.specs.declared.types.Run.{Run}
 use Rattle.polytope.specs.declared.types.Rooms.{Rooms}
 use Rattle.polytope.specs.declared.types.Best.{Best}
 use Rattle.polytope.specs.declared.types.Step.{Step}
-use Rattle.pushes.specs.declared.types.FaceId.{FaceId}
 use Rattle.pushes.specs.declared.types.MaybeFaceId.{MaybeFaceId}
 use Rattle.pushes.specs.declared.types.MaybeFaceId.the-variants as MaybeFace
 use Rattle.run.specs.declared.types.Popped.{Popped}

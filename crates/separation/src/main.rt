@@ -7,7 +7,7 @@ use libc::STDIN_FILENO;
 use libc::STDOUT_FILENO;
 use lines::Placed;
 use stream::Turn;
-use stream::Window;
+use window::Window;
 
 // `stream` answers no more than 4,294,967,295 records; the loop goes one further and so ends by itself.
 const MOST_TURNS: u64 = 4_294_967_296;
@@ -152,7 +152,7 @@ fn has_enough(w: Window) -> bool {
     if w.ended {
         return true;
     }
-    RECORD_BYTES <= stream::rest_of(w.from, w.until)
+    RECORD_BYTES <= window::rest_of(w.from, w.until)
 }
 
 // At least 160 bytes from the window's place on, or the file's rest. Each read brings a byte at least.
@@ -177,8 +177,8 @@ fn filled(input: &mut [u8], w: Window) -> Seen {
     if has_enough(w) {
         return Seen::At(w);
     }
-    stream::to_front(input, w.from, w.until);
-    read_enough(input, stream::moved(w))
+    window::to_front(input, w.from, w.until);
+    read_enough(input, window::moved(w))
 }
 
 // ---- output

@@ -1,3 +1,2 @@
--- Laws of the definitions: what is a simplex, and that a location fits.
+-- Laws of the definitions: what is a simplex.
 pub mod Laws
-pub mod Fits

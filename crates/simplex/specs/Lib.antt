@@ -1,4 +1,3 @@
--- What the contracts of this crate cite: the simplex, its operations, and its reduction.
+-- What the contracts of this crate cite: the simplex and its operations.
 pub mod Simplex
 pub mod Operations
-pub mod Reduction

@@ -1,6 +1,6 @@
 -- The public operations of the simplex. Definitions only. Each tests first that the value is a simplex, and a refused one hands it back as it came in.
 -- Carries the methods of `VoronoiSimplex` of src/query/gjk/voronoi_simplex3.rs: first those that round nothing, then `add_point`, `max_sq_len` and `modify_pnts`.
--- `new` is in Simplex.antt, the projections are in Reduction.antt.
+-- `new` is in Simplex.antt, the projections are in the crate `reduction`.
 use Prim.Native.Nat.{ℕ, _+_}
 use mathlib.Core.Bool.{Bool, true, false, _&&_, cond}
 use lib.Dec.{leb, ltb}

@@ -50,15 +50,6 @@ unfoldable pub swapIn : VoronoiSimplex → ℕ → ℕ → VoronoiSimplex
 swapIn s i j =
     simplexOf (exchanged 0 (s .«prev_vertices») i j) (s .«prev_proj») (s .«prev_dim») (exchanged nowhere (s .vertices) i j) (s .proj) (s .dim)
 
--- `self.vertices[i] = self.vertices[3]`
-unfoldable pub overwriteIn : VoronoiSimplex → ℕ → VoronoiSimplex
-overwriteIn s i =
-    simplexOf (s .«prev_vertices») (s .«prev_proj») (s .«prev_dim») (set (s .vertices) i (vertexAt s 3)) (s .proj) (s .dim)
-
--- `self.proj = p; self.dim = d`
-unfoldable pub placeIn : VoronoiSimplex → List Float → ℕ → VoronoiSimplex
-placeIn s p d = simplexOf (s .«prev_vertices») (s .«prev_proj») (s .«prev_dim») (s .vertices) p d
-
 -- what `add_point` keeps first: the dimension and the weights, and the places 0, 1, 2, 3
 unfoldable pub savedIn : VoronoiSimplex → VoronoiSimplex
 savedIn s = simplexOf (0 ∷ 1 ∷ 2 ∷ 3 ∷ []) (s .proj) (s .dim) (s .vertices) (s .proj) (s .dim)

@@ -1,7 +1,6 @@
 // The simplex of voronoi_simplex3.rs, by value: every operation takes it, and hands it back where the
-// Rust alters it. A value that is no simplex, and every place where the Rust panics, gets refusal 2
+// Rust alters it; the projections of the origin are the crate `reduction`. A value that is no simplex, and every place where the Rust panics, gets refusal 2
 // with the simplex as it came in.
-mod location;
 mod operations;
 mod simplex;
 mod steps;
@@ -12,7 +11,5 @@ pub use operations::Answer;
 pub use operations::Corner;
 pub use operations::Number;
 pub use operations::Outcome;
-pub use operations::Projected;
-pub use operations::Reduced;
 pub use operations::Size;
 pub use simplex::VoronoiSimplex;

@@ -4,11 +4,7 @@ ghost use mathlib.Core.Path.{_≡_};
 ghost use lib.Ieee.{binary32};
 ghost use Rattle.simplex.specs.Operations.{swapSimplex, resetSimplex, addPoint, modifyPnts};
 ghost use Rattle.simplex.specs.Operations.{projCoord, cornerPoint, prevProjCoord, prevPoint};
-ghost use Rattle.simplex.specs.Reduction.{reduceIn, projectOriginAndReduce, projectOrigin};
 ghost use Rattle.simplex.specs.Operations.{containsPoint, dimensionOf, prevDimensionOf, maxSqLen};
-use crate::location::Located;
-use crate::location::apply_location;
-use crate::location::find_location;
 use crate::simplex::VoronoiSimplex;
 use crate::steps;
 use shape::Vertex;
@@ -53,17 +49,6 @@ pub enum Size {
 pub enum Corner {
     At(Vertex),
     Refused,
-}
-
-// Where the origin projects.
-pub enum Projected {
-    At(Vec3),
-    Refused,
-}
-
-pub struct Reduced {
-    pub simplex: VoronoiSimplex,
-    pub projection: Projected,
 }
 
 impl VoronoiSimplex {
@@ -170,32 +155,6 @@ impl VoronoiSimplex {
         Corner::Refused
     }
 
-    // Projects the origin on the simplex, and reduces it to the part that holds the projection.
-    pub fn project_origin_and_reduce(self) -> Reduced
-        ensures { λ r. ⌜ r ≡ projectOriginAndReduce binary32 self ⌝ }
-    {
-        if self.is_simplex() {
-            return reduce_in(self);
-        }
-        Reduced {
-            simplex: self,
-            projection: Projected::Refused,
-        }
-    }
-
-    // The projection alone: the simplex stays as it is.
-    pub fn project_origin(self) -> Projected
-        ensures { λ r. ⌜ r ≡ projectOrigin binary32 self ⌝ }
-    {
-        if self.is_simplex() {
-            return match find_location(self) {
-                Located::At(point, _) => Projected::At(point),
-                Located::Refused => Projected::Refused,
-            };
-        }
-        Projected::Refused
-    }
-
     // Whether a vertex of the simplex has just this point.
     pub fn contains_point(self, pt: Vec3) -> Answer
         ensures { λ r. ⌜ r ≡ containsPoint self pt ⌝ }
@@ -252,32 +211,5 @@ impl VoronoiSimplex {
             simplex: self,
             outcome: Outcome::Refused,
         }
-    }
-}
-
-// The two halves in turn. What is refused hands the simplex back as it came in.
-fn reduce_in(s: VoronoiSimplex) -> Reduced
-    ensures { λ r. ⌜ r ≡ reduceIn binary32 s ⌝ }
-{
-    match find_location(s) {
-        Located::At(point, location) => {
-            let applied = apply_location(s, location);
-            let outcome = applied.outcome;
-            let simplex = applied.simplex;
-            match outcome {
-                Outcome::Done => Reduced {
-                    simplex,
-                    projection: Projected::At(point),
-                },
-                Outcome::Refused => Reduced {
-                    simplex,
-                    projection: Projected::Refused,
-                },
-            }
-        }
-        Located::Refused => Reduced {
-            simplex: s,
-            projection: Projected::Refused,
-        },
     }
 }

@@ -3,7 +3,7 @@
 ghost use mathlib.Core.Path.{_≡_};
 ghost use Prim.Native.Nat.{_+_, _<_, _≤_};
 ghost use lib.Ieee.{binary32};
-ghost use Rattle.simplex.specs.Simplex.{swapIn, overwriteIn, placeIn, savedIn, grownIn};
+ghost use Rattle.simplex.specs.Simplex.{swapIn, savedIn, grownIn};
 ghost use Rattle.simplex.specs.Simplex.{nearPoint, nearLine, nearPlane, nearSimplex};
 ghost use Rattle.simplex.specs.Simplex.{resetIn, hasPoint, greaterSqLen, maxSqLenOf, translatedIn};
 use crate::simplex::VoronoiSimplex;
@@ -24,27 +24,6 @@ pub fn swap_in(s: VoronoiSimplex, i1: usize, i2: usize) -> VoronoiSimplex
     let y = s.prev_vertices[i2];
     t.prev_vertices[i1] = y;
     t.prev_vertices[i2] = x;
-    t
-}
-
-// The last vertex is written over vertex i. The Rust does not swap here, so `prev_point` shows the new vertex.
-pub fn overwrite_in(s: VoronoiSimplex, i: usize) -> VoronoiSimplex
-    requires { ⌜ i < 4 ⌝ }
-    ensures { λ r. ⌜ r ≡ overwriteIn s i ⌝ }
-{
-    let mut t = s;
-    let last = s.vertices[3];
-    t.vertices[i] = last;
-    t
-}
-
-// The weights and the dimension that a reduction leaves.
-pub fn place_in(s: VoronoiSimplex, proj: [f32; 3], dim: usize) -> VoronoiSimplex
-    ensures { λ r. ⌜ r ≡ placeIn s proj dim ⌝ }
-{
-    let mut t = s;
-    t.proj = proj;
-    t.dim = dim;
     t
 }
 

@@ -3,11 +3,11 @@
 ghost use mathlib.Core.Path.{_≡_};
 ghost use lib.Ieee.{binary32};
 ghost use Rattle.simplex.specs.Operations.{resetSimplex, addPoint};
-ghost use Rattle.simplex.specs.Reduction.{projectOriginAndReduce};
+ghost use Rattle.reduction.specs.Reduction.{projectOriginAndReduce};
+use reduction::Projected;
 use shape::Vertex;
 use simplex::Answer;
 use simplex::Outcome;
-use simplex::Projected;
 use simplex::VoronoiSimplex;
 
 // The simplex becomes the one vertex.
@@ -32,7 +32,7 @@ pub fn add_point(s: &mut VoronoiSimplex, pt: Vertex) -> Answer
 pub fn project_origin_and_reduce(s: &mut VoronoiSimplex) -> Projected
     ensures { λ r. ⌜ (now (s .exit) ≡ projectOriginAndReduce binary32 (now (s .entry)) .simplex) × (r ≡ projectOriginAndReduce binary32 (now (s .entry)) .projection) ⌝ }
 {
-    let r = VoronoiSimplex::project_origin_and_reduce(*s);
+    let r = reduction::project_origin_and_reduce(*s);
     *s = r.simplex;
     r.projection
 }

@@ -21,7 +21,6 @@ use Rattle.polytope.specs.declared.types.Step.the-variants.{Onward, Ended}
 use Rattle.polytope.specs.Polytope.{World, State, Out, onward, ended, Act, Nil, stateOf, stepOut, vertexAt, distTol, firstFar, second, pushVertex, pushPoints, bootstrap, startVertices, startFaces, begin, noneYet, pure, stopIf, doIf, next, look, _>>=_, _>>_}
 use Rattle.pushes.specs.Contracts.{worldBy, heapRoom}
 use Rattle.first_faces.specs.Contracts.{StartsFaces}
-use Rattle.start.specs.declared.types.Begun.{Begun}
 use Rattle.start.specs.declared.types.Begun.the-variants as Begins-with
 use Rattle.start.specs.Contracts.{StartsVertices, begunOut, readyOf, Begins}
 

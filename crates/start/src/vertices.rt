@@ -15,8 +15,8 @@ use pushes::push_vertex;
 use shape::Shape;
 use shape::Vertex;
 use shape::from_shapes;
-use silhouette::vertex_at;
 use simplex::VoronoiSimplex;
+use stores::vertex_at;
 use vector::Pose;
 use vector::Vec3;
 

@@ -1,4 +1,3 @@
 -- What the functions' proofs cite.
-pub mod Fronts
 pub mod Turns
 pub mod Windows

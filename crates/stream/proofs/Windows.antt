@@ -20,7 +20,8 @@ use Rattle.lines.specs.Lines.{lineOf, badLine}
 use Rattle.epa.specs.Final.{Final, finalBy, answered}
 use Rattle.stream.specs.declared.Turn.{Turn}
 use Rattle.stream.specs.declared.Turn.the-variants as Turn
-use Rattle.stream.specs.Stream.{Told, told, offsetOf, caseOutcome, lineTurn, badTurn, badTold, turnBy, mostRecords, turnOf}
+use Rattle.window.specs.Window.{offsetOf}
+use Rattle.stream.specs.Stream.{Told, told, caseOutcome, lineTurn, badTurn, badTold, turnBy, mostRecords, turnOf}
 
 -- ---- the same turn, with the next record's place k further on
 

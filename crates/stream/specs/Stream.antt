@@ -1,10 +1,8 @@
 -- One turn of a program that reads a case file through a window: the record at a place of the window, and the line that goes out for it (document 01, "Case file and vote"). Definitions only.
 use mathlib.Core.List.{List}
-use Prim.Native.Nat.{ℕ, _+_, _-_, _^_, _%_}
+use Prim.Native.Nat.{ℕ}
 use mathlib.Core.Bool.{cond}
-use lib.Dec.{ltb, leb}
-use lib.ListN.{length, take, drop}
-use lib.Seq.{sets}
+use lib.Dec.{ltb}
 use lib.Ieee.{Float}
 use Rattle.casefile.specs.declared.records.Case.{Case}
 use Rattle.casefile.specs.declared.records.CaseAnswer.{CaseAnswer}
@@ -16,29 +14,9 @@ use Rattle.lines.specs.Text.{After, placeOf}
 use Rattle.lines.specs.Lines.{lineOf, badLine}
 use Rattle.epa.specs.Final.{Final, finalBy, answered}
 use Rattle.channel.specs.Channel.{separated}
+use Rattle.window.specs.Window.{offsetOf}
 use Rattle.stream.specs.declared.Turn.{Turn}
 use Rattle.stream.specs.declared.Turn.the-variants as Turn
-use Rattle.stream.specs.declared.Window.{Window}
-
--- ---- the window
-
--- where a place of the window stands in the file: no file has 2 ^ 64 bytes
-abbrev pub offsetOf : ℕ → ℕ → ℕ
-offsetOf base p = (base + p) % 2 ^ 64
-
--- the bytes that are not read yet
-abbrev pub restOf : ℕ → ℕ → ℕ
-restOf at end = cond (leb at end) (end - at) 0
-
--- the window once those bytes stand at the start of the buffer
-abbrev pub movedOf : Window → Window
-movedOf w = record { base = offsetOf (w .base) (w .from); from = 0; until = restOf (w .from) (w .until); ended = w .ended }
-
--- those bytes at the start of the buffer, where the window lies in it
-unfoldable pub frontOf : List ℕ → ℕ → ℕ → List ℕ
-frontOf s at end = cond (ltb (length s) end) s (cond (ltb end at) s (sets s 0 (take (end - at) (drop at s))))
-
--- ---- a record
 
 abbrev pub caseOutcome : Case → List Float → List ℕ → List ℕ → List Float → List ℕ → List ℕ → List ℕ → List ℕ → List Float → Final Outcome
 caseOutcome c v p a n d ef ec hf hk = separated (c .pos12) (c .g1) (c .g2) (c .dir) (c .«max_dist») (c .exact) v p a n d ef ec hf hk

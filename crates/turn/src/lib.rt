@@ -8,6 +8,7 @@ ghost use Rattle.turn.specs.Contracts.{carriedOf, Advances, Turns};
 mod types;
 
 use expansion::expand;
+use faces::answer_of;
 use polytope::Best;
 use polytope::Found;
 use polytope::Rooms;
@@ -18,8 +19,7 @@ use pushes::FaceId;
 use pushes::push_vertex;
 use shape::Shape;
 use shape::from_shapes;
-use silhouette::answer_of;
-use silhouette::normal_of;
+use stores::normal_of;
 pub use types::Turned;
 use vector::Pose;
 

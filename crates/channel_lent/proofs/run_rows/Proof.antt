@@ -13,17 +13,20 @@ faces-lent c = let at-start = c .before .before .before .before .before .before 
 corners-lent : tie.Need-slice-aggregate-separate-2
 corners-lent c = let at-start = c .before .before .before .before .before .before .before .before .before .before .before .before .before .before .before .before in length-lent (at-start .args .rows .n) (at-start .args .rows .corners) (at-start .pre .1)
 
+-- where the run is over, from where the function returns
+abbrev over : tie.After-slice-known14 → tie.After-separate
+over c = c .before .before .before .before .before .before .before .before .before .before .before .before .before .before .before .before
+
 returns : tie.Need-returns
 returns c =
-    let at-call = c .before .before .before .before .before .before .before .before .before .before .before .before .before .before .before .before in
-    let at-start = at-call .before .before .before .before .before .before .before .before .before .before .before .before .before .before .before .before .before .before .before in
+    let at-start = over c .before .before .before .before .before .before .before .before .before .before .before .before .before .before .before .before .before .before .before in
     let a = at-start .args in (
-      columns-back (at-call .separate .result) (at-call .separate .last .1 .1 .1 .1 .1 .1 .0) (at-call .separate .last .1 .1 .1 .1 .1 .1 .1 .0) (at-call .separate .last .1 .1 .1 .1 .1 .1 .1 .1 .0) (at-call .separate .last .1 .1 .1 .1 .1 .1 .1 .1 .1 .0) (at-call .separate .last .1 .1 .1 .1 .1 .1 .1 .1 .1 .1 .0) (at-call .separate .last .1 .1 .1 .1 .1 .1 .1 .1 .1 .1 .1 .0) (at-call .separate .last .1 .1 .1 .1 .1 .1 .1 .1 .1 .1 .1 .1 .0) (at-call .separate .last .1 .1 .1 .1 .1 .1 .1 .1 .1 .1 .1 .1 .1 .0) (at-call .separate .last .1 .1 .1 .1 .1 .1 .1 .1 .1 .1 .1 .1 .1 .1 .0)
+      columns-back (over c .separate .result) (over c .separate .last .1 .1 .1 .1 .1 .1 .0) (over c .separate .last .1 .1 .1 .1 .1 .1 .1 .0) (over c .separate .last .1 .1 .1 .1 .1 .1 .1 .1 .0) (over c .separate .last .1 .1 .1 .1 .1 .1 .1 .1 .1 .0) (over c .separate .last .1 .1 .1 .1 .1 .1 .1 .1 .1 .1 .0) (over c .separate .last .1 .1 .1 .1 .1 .1 .1 .1 .1 .1 .1 .0) (over c .separate .last .1 .1 .1 .1 .1 .1 .1 .1 .1 .1 .1 .1 .0) (over c .separate .last .1 .1 .1 .1 .1 .1 .1 .1 .1 .1 .1 .1 .1 .0) (over c .separate .last .1 .1 .1 .1 .1 .1 .1 .1 .1 .1 .1 .1 .1 .1 .0)
           (a .rows .n) (a .rows .faces) (a .rows .corners) (drop (a .rows .n) (a .rows .faces)) (drop (a .rows .n) (a .rows .corners))
           (separated (a .pos12) (a .g1) (a .g2) (a .dir) (a .max-dist) (a .exact) (a .vertices .now) (a .pts .now) (a .adj .now) (a .nums .now) (a .dead .now) (take (a .rows .n) (a .rows .faces)) (take (a .rows .n) (a .rows .corners)) (a .heap-face .now) (a .heap-key .now))
-          (at-start .pre .0) (at-start .pre .1) (at-call .separate .kept .1 .1 .1 .1 .1 .1 .1 .1 .1 .1 .1 .0) (at-call .separate .kept .1 .1 .1 .1 .1 .1 .1 .1 .1 .1 .1 .1 .0) (at-call .separate .ensures),
+          (at-start .pre .0) (at-start .pre .1) (over c .separate .kept .1 .1 .1 .1 .1 .1 .1 .1 .1 .1 .1 .0) (over c .separate .kept .1 .1 .1 .1 .1 .1 .1 .1 .1 .1 .1 .1 .0) (over c .separate .ensures),
       refl,
     )
 
 pub run-rows-spec : {M : Type 1} → statement M
-run-rows-spec = tie.close (tie.spec (λ c. search needs) faces-lent (λ c. search needs) corners-lent (λ c κs. tt) (λ c. search needs) (λ c. search needs) (λ c. search needs) (λ c. search needs) (λ c. search needs) (λ c. search needs) (λ c. search needs) returns)
+run-rows-spec = tie.close (tie.spec (λ c. search needs) faces-lent (λ c. search needs) corners-lent (λ c κs. tt) (λ c. over c .separate .kept .1 .1 .1 .1 .1 .1 .0) (λ c. over c .separate .kept .1 .1 .1 .1 .1 .1 .1 .0) (λ c. over c .separate .kept .1 .1 .1 .1 .1 .1 .1 .1 .0) (λ c. over c .separate .kept .1 .1 .1 .1 .1 .1 .1 .1 .1 .0) (λ c. over c .separate .kept .1 .1 .1 .1 .1 .1 .1 .1 .1 .1 .0) (λ c. over c .separate .kept .1 .1 .1 .1 .1 .1 .1 .1 .1 .1 .1 .1 .1 .0) (λ c. over c .separate .kept .1 .1 .1 .1 .1 .1 .1 .1 .1 .1 .1 .1 .1 .1 .0) returns)

@@ -2,7 +2,8 @@
 use mathlib.Core.Path.{refl}
 use borrow.Author.Needs.{needs}
 use lib.ListN.{take, drop}
-use Rattle.embedding.specs.Embedding.{shapeOf, ran}
+use Rattle.answers.specs.Answers.{shapeOf}
+use Rattle.embedding.specs.Embedding.{ran}
 use Rattle.epa_lent.proofs.Lent.{length-lent, columns-back}
 use Rattle.embedding.proofs.run_rows.Statement.{statement}
 use Rattle.embedding.proofs.run_rows.Tie as tie
@@ -13,17 +14,20 @@ faces-lent c = let at-start = c .before .before .before .before .before .before 
 corners-lent : tie.Need-slice-aggregate-run-columns-2
 corners-lent c = let at-start = c .before .before .before .before .before .before .before .before .before .before .before .before .before .before .before .before in length-lent (at-start .args .rows .n) (at-start .args .rows .corners) (at-start .pre .1)
 
+-- where the run is over, from where the function returns
+abbrev over : tie.After-slice-known14 → tie.After-run-columns
+over c = c .before .before .before .before .before .before .before .before .before .before .before .before .before .before .before .before
+
 returns : tie.Need-returns
 returns c =
-    let at-call = c .before .before .before .before .before .before .before .before .before .before .before .before .before .before .before .before in
-    let at-start = at-call .before .before .before .before .before .before .before .before .before .before .before .before .before .before .before .before .before .before .before in
+    let at-start = over c .before .before .before .before .before .before .before .before .before .before .before .before .before .before .before .before .before .before .before in
     let a = at-start .args in (
-      columns-back (at-call .run-columns .result) (at-call .run-columns .last .1 .1 .1 .1 .1 .1 .0) (at-call .run-columns .last .1 .1 .1 .1 .1 .1 .1 .0) (at-call .run-columns .last .1 .1 .1 .1 .1 .1 .1 .1 .0) (at-call .run-columns .last .1 .1 .1 .1 .1 .1 .1 .1 .1 .0) (at-call .run-columns .last .1 .1 .1 .1 .1 .1 .1 .1 .1 .1 .0) (at-call .run-columns .last .1 .1 .1 .1 .1 .1 .1 .1 .1 .1 .1 .0) (at-call .run-columns .last .1 .1 .1 .1 .1 .1 .1 .1 .1 .1 .1 .1 .0) (at-call .run-columns .last .1 .1 .1 .1 .1 .1 .1 .1 .1 .1 .1 .1 .1 .0) (at-call .run-columns .last .1 .1 .1 .1 .1 .1 .1 .1 .1 .1 .1 .1 .1 .1 .0)
+      columns-back (over c .run-columns .result) (over c .run-columns .last .1 .1 .1 .1 .1 .1 .0) (over c .run-columns .last .1 .1 .1 .1 .1 .1 .1 .0) (over c .run-columns .last .1 .1 .1 .1 .1 .1 .1 .1 .0) (over c .run-columns .last .1 .1 .1 .1 .1 .1 .1 .1 .1 .0) (over c .run-columns .last .1 .1 .1 .1 .1 .1 .1 .1 .1 .1 .0) (over c .run-columns .last .1 .1 .1 .1 .1 .1 .1 .1 .1 .1 .1 .0) (over c .run-columns .last .1 .1 .1 .1 .1 .1 .1 .1 .1 .1 .1 .1 .0) (over c .run-columns .last .1 .1 .1 .1 .1 .1 .1 .1 .1 .1 .1 .1 .1 .0) (over c .run-columns .last .1 .1 .1 .1 .1 .1 .1 .1 .1 .1 .1 .1 .1 .1 .0)
           (a .rows .n) (a .rows .faces) (a .rows .corners) (drop (a .rows .n) (a .rows .faces)) (drop (a .rows .n) (a .rows .corners))
           (ran (a .pos12) (shapeOf (a .g1)) (shapeOf (a .g2)) (a .dir) (a .max-dist) (a .exact) (a .vertices .now) (a .pts .now) (a .adj .now) (a .nums .now) (a .dead .now) (take (a .rows .n) (a .rows .faces)) (take (a .rows .n) (a .rows .corners)) (a .heap-face .now) (a .heap-key .now))
-          (at-start .pre .0) (at-start .pre .1) (at-call .run-columns .kept .1 .1 .1 .1 .1 .1 .1 .1 .1 .1 .1 .0) (at-call .run-columns .kept .1 .1 .1 .1 .1 .1 .1 .1 .1 .1 .1 .1 .0) (at-call .run-columns .ensures),
+          (at-start .pre .0) (at-start .pre .1) (over c .run-columns .kept .1 .1 .1 .1 .1 .1 .1 .1 .1 .1 .1 .0) (over c .run-columns .kept .1 .1 .1 .1 .1 .1 .1 .1 .1 .1 .1 .1 .0) (over c .run-columns .ensures),
       refl,
     )
 
 pub run-rows-spec : {M : Type 1} → statement M
-run-rows-spec = tie.close (tie.spec (λ c. search needs) faces-lent (λ c. search needs) corners-lent (λ c κs. tt) (λ c. search needs) (λ c. search needs) (λ c. search needs) (λ c. search needs) (λ c. search needs) (λ c. search needs) (λ c. search needs) returns)
+run-rows-spec = tie.close (tie.spec (λ c. search needs) faces-lent (λ c. search needs) corners-lent (λ c κs. tt) (λ c. over c .run-columns .kept .1 .1 .1 .1 .1 .1 .0) (λ c. over c .run-columns .kept .1 .1 .1 .1 .1 .1 .1 .0) (λ c. over c .run-columns .kept .1 .1 .1 .1 .1 .1 .1 .1 .0) (λ c. over c .run-columns .kept .1 .1 .1 .1 .1 .1 .1 .1 .1 .0) (λ c. over c .run-columns .kept .1 .1 .1 .1 .1 .1 .1 .1 .1 .1 .0) (λ c. over c .run-columns .kept .1 .1 .1 .1 .1 .1 .1 .1 .1 .1 .1 .1 .1 .0) (λ c. over c .run-columns .kept .1 .1 .1 .1 .1 .1 .1 .1 .1 .1 .1 .1 .1 .1 .0) returns)

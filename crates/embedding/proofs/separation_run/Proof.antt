@@ -48,15 +48,16 @@ use Rattle.vector.proofs.pose.Pose.Laws as P′
 use Rattle.vector.specs.declared.vec3.Vec3.{Vec3}
 use Rattle.vector.proofs.vec3.Vec3 as D
 use Rattle.vector.proofs.vec3.Vec3.Laws as D′
-use Rattle.embedding.specs.declared.ShapeRecord.{ShapeRecord}
-use Rattle.embedding.proofs.ShapeRecord as G
-use Rattle.embedding.proofs.ShapeRecord.Laws as G′
+use Rattle.answers.specs.declared.ShapeRecord.{ShapeRecord}
+use Rattle.answers.proofs.ShapeRecord as G
+use Rattle.answers.proofs.ShapeRecord.Laws as G′
 use Rattle.vote.specs.declared.Answer.{Answer}
 use Rattle.vote.proofs.Answer as E
 use Rattle.vote.proofs.Answer.Laws as E′
 use Rattle.epa.specs.Final.{finalBy}
 use Rattle.epa_lent.proofs.Lent.{rows-suffice, on-records}
-use Rattle.embedding.specs.Embedding.{shapeOf, ran}
+use Rattle.answers.specs.Answers.{shapeOf}
+use Rattle.embedding.specs.Embedding.{ran}
 use Rattle.edges.specs.declared.Edge.{Edge}
 use Rattle.edges.specs.declared.Rows.{Rows}
 use Rattle.edges.specs.Edges.{rowsOf, published}

@@ -1,6 +1,6 @@
 -- `run_epa` does what the run's `epa` does. Assumes nothing.
 use borrow.Author.Needs.{needs}
-use mathlib.Core.Path.{refl, _∙_}
+use mathlib.Core.Path.{_∙_}
 use Rattle.run.proofs.Running.{start-ends, run-ends, expansions-ready}
 use Rattle.run.proofs.run_epa.Statement.{statement}
 use Rattle.run.proofs.run_epa.Tie as tie

@@ -21,8 +21,12 @@ answer-next-requires c κs = search needs
 after-requires : tie.Need-after-requires
 after-requires c κs = search needs
 
-same-length-8 : tie.Need-same-length-8
-same-length-8 c = c .before .before .before .before .before .before .before .before .before .before .before .before .before .before .before .before .before .before .before .before .before .before .before .before .before .before .before .before .before .before .before .before .before .before .before .before .before .before .before .before .filled .kept .0
+-- where the record is answered, and before it the window filled, from where the function returns
+abbrev answered : tie.After-after → tie.After-answer-next
+answered c = c .before .before .before .before .before .before .before .before .before .before .before .before .before .before .before .before .before .before .before .before .before
+
+abbrev filled : tie.After-after → tie.After-filled
+filled c = answered c .before .before .before .before .before .before .before .before .before .before .before .before .before .before .before .before .before .before .before
 
 pub turn-spec : {M : Type 1} → statement M
-turn-spec = tie.close (tie.spec (λ c. search needs) (λ c. search needs) with-room-requires (λ c. search needs) (λ c. search needs) (λ c. search needs) (λ c. search needs) filled-requires (λ c. search needs) (λ c. search needs) (λ c. search needs) (λ c. search needs) (λ c. search needs) (λ c. search needs) (λ c. search needs) (λ c. search needs) (λ c. search needs) (λ c. search needs) (λ c. search needs) (λ c. search needs) slice-aggregate-answer-next answer-next-requires after-requires same-length-8 (λ c. search needs) (λ c. search needs) (λ c. search needs) (λ c. search needs) (λ c. search needs) (λ c. search needs) (λ c. search needs) (λ c. search needs) (λ c. search needs) (λ c. search needs) (λ c. search needs))
+turn-spec = tie.close (tie.spec (λ c. search needs) (λ c. search needs) with-room-requires (λ c. search needs) (λ c. search needs) (λ c. search needs) (λ c. search needs) filled-requires (λ c. search needs) (λ c. search needs) (λ c. search needs) (λ c. search needs) (λ c. search needs) (λ c. search needs) (λ c. search needs) (λ c. search needs) (λ c. search needs) (λ c. search needs) (λ c. search needs) (λ c. search needs) slice-aggregate-answer-next answer-next-requires after-requires (λ c. filled c .filled .kept .0) (λ c. search needs) (λ c. answered c .answer-next .kept .1 .1 .1 .1 .1 .1 .0) (λ c. answered c .answer-next .kept .1 .1 .1 .1 .1 .1 .1 .0) (λ c. answered c .answer-next .kept .1 .1 .1 .1 .1 .1 .1 .1 .0) (λ c. answered c .answer-next .kept .1 .1 .1 .1 .1 .1 .1 .1 .1 .0) (λ c. answered c .answer-next .kept .1 .1 .1 .1 .1 .1 .1 .1 .1 .1 .0) (λ c. answered c .answer-next .kept .1 .1 .1 .1 .1 .1 .1 .1 .1 .1 .1 .0) (λ c. answered c .answer-next .kept .1 .1 .1 .1 .1 .1 .1 .1 .1 .1 .1 .1 .0) (λ c. answered c .answer-next .kept .1 .1 .1 .1 .1 .1 .1 .1 .1 .1 .1 .1 .1 .0) (λ c. answered c .answer-next .kept .1 .1 .1 .1 .1 .1 .1 .1 .1 .1 .1 .1 .1 .1 .0) (λ c. search needs))

@@ -2,7 +2,7 @@
 use borrow.Author.Needs.{needs}
 use mathlib.Core.Path.{_∙_}
 use Rattle.polytope.specs.Polytope.{fourFaces}
-use Rattle.first_faces.proofs.Pairing.{pair-goes-on, pair-ends}
+use Rattle.first_two.proofs.Pairing.{pair-goes-on, pair-ends}
 use Rattle.first_faces.proofs.four.four_faces.Statement.{statement}
 use Rattle.first_faces.proofs.four.four_faces.Tie as tie
 

@@ -41,14 +41,14 @@ use denote.Triple.Walked.{says, Stays, stay-none, walkOf, AllGo, goes-none, Walk
 use denote.Triple.Clauses.{ensured, lasts}
 use denote.Exit.{yes}
 use lib.Ieee.{binary32}
-use Rattle.simplex.specs.Reduction.{projectOriginAndReduce}
+use Rattle.reduction.specs.Reduction.{projectOriginAndReduce}
 use Rattle.simplex.specs.declared.simplex.VoronoiSimplex.{VoronoiSimplex}
-use Rattle.simplex.specs.declared.operations.Projected.{Projected}
-use Rattle.simplex.specs.declared.operations.Reduced.{Reduced}
-use Rattle.simplex.proofs.operations.Projected as E
-use Rattle.simplex.proofs.operations.Projected.Laws as E′
-use Rattle.simplex.proofs.operations.Reduced as B
-use Rattle.simplex.proofs.operations.Reduced.Laws as B′
+use Rattle.reduction.specs.declared.Projected.{Projected}
+use Rattle.reduction.specs.declared.Reduced.{Reduced}
+use Rattle.reduction.proofs.Projected as E
+use Rattle.reduction.proofs.Projected.Laws as E′
+use Rattle.reduction.proofs.Reduced as B
+use Rattle.reduction.proofs.Reduced.Laws as B′
 use Rattle.simplex.proofs.simplex.VoronoiSimplex as T
 use Rattle.simplex.proofs.simplex.VoronoiSimplex.Laws as T′
 use Rattle.simplex_lent.proofs.project_origin_and_reduce as thin

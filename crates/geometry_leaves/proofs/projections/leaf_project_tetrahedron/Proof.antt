@@ -1,6 +1,6 @@
 -- `leaf_project_tetrahedron` returns the projection, as it goes over.
 use borrow.Author.Needs.{needs}
-use Rattle.projection.specs.Tetrahedron.{tetrahedronNumber, tetrahedronValues}
+use Rattle.tetrahedron.specs.Tetrahedron.{tetrahedronNumber, tetrahedronValues}
 use Rattle.geometry_leaves.specs.Projections.{tetrahedronBy, tetrahedronPlaced}
 use Rattle.geometry_leaves.proofs.projections.leaf_project_tetrahedron.Statement.{statement}
 use Rattle.geometry_leaves.proofs.projections.leaf_project_tetrahedron.Tie as tie

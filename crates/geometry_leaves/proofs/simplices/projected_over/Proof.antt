@@ -2,7 +2,7 @@
 use borrow.Author.Needs.{needs}
 use lib.Ieee.{ofBits}
 use Rattle.vector.specs.Vector.{zeroV}
-use Rattle.simplex.specs.Reduction.{projectedNumber, projectedValue}
+use Rattle.reduction.specs.Reduction.{projectedNumber, projectedValue}
 use Rattle.geometry_leaves.specs.Simplices.{projectedOver}
 use Rattle.geometry_leaves.proofs.simplices.projected_over.Statement.{statement}
 use Rattle.geometry_leaves.proofs.simplices.projected_over.Tie as tie

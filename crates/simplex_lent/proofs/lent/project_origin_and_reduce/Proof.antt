@@ -39,20 +39,20 @@ use denote.Triple.Table.{entered, cited}
 use denote.Triple.Walked.{says, Stays, stay-ref, walkOf, AllGo, goes-ref, Walks, ends-at, walked, walk-meets}
 use denote.Triple.Clauses.{ensured, lasts}
 use lib.Ieee.{binary32}
-use Rattle.simplex.specs.Reduction.{projectOriginAndReduce}
+use Rattle.reduction.specs.Reduction.{projectOriginAndReduce}
 use Rattle.simplex.specs.declared.simplex.VoronoiSimplex.{VoronoiSimplex}
-use Rattle.simplex.specs.declared.operations.Projected.{Projected}
-use Rattle.simplex.specs.declared.operations.Reduced.{Reduced}
-use Rattle.simplex.proofs.operations.Projected as E
-use Rattle.simplex.proofs.operations.Projected.Laws as E′
-use Rattle.simplex.proofs.operations.Reduced as B
-use Rattle.simplex.proofs.operations.Reduced.Laws as B′
+use Rattle.reduction.specs.declared.Projected.{Projected}
+use Rattle.reduction.specs.declared.Reduced.{Reduced}
+use Rattle.reduction.proofs.Projected as E
+use Rattle.reduction.proofs.Projected.Laws as E′
+use Rattle.reduction.proofs.Reduced as B
+use Rattle.reduction.proofs.Reduced.Laws as B′
 use Rattle.simplex.proofs.simplex.VoronoiSimplex as T
 use Rattle.simplex.proofs.simplex.VoronoiSimplex.Laws as T′
-use Rattle.simplex.proofs.simplex.VoronoiSimplex.project_origin_and_reduce as core
-use Rattle.simplex.proofs.simplex.VoronoiSimplex.project_origin_and_reduce.Symbol as core-def
-use Rattle.simplex.proofs.simplex.VoronoiSimplex.project_origin_and_reduce.Symbol.{name as #by-value}
-use Rattle.simplex.proofs.simplex.VoronoiSimplex.project_origin_and_reduce.Met as core-thm
+use Rattle.reduction.proofs.project_origin_and_reduce as core
+use Rattle.reduction.proofs.project_origin_and_reduce.Symbol as core-def
+use Rattle.reduction.proofs.project_origin_and_reduce.Symbol.{name as #by-value}
+use Rattle.reduction.proofs.project_origin_and_reduce.Met as core-thm
 use Rattle.simplex_lent.proofs.lent.project_origin_and_reduce.Key.{name as #lent}
 use Rattle.simplex_lent.proofs.lent.project_origin_and_reduce as lent
 use Rattle.simplex_lent.proofs.lent.project_origin_and_reduce.Statement as stated
@@ -164,4 +164,4 @@ project-origin-and-reduce-spec 𝓤 H 𝓜 𝓖 𝓡 =
     entered 𝓤 H (tripleOf 𝓤 H (𝓖 .A) lent.signature (lent.spec 𝓤 H (𝓖 .A) (𝓜 .mem) (𝓡 .run)))
     (tables 𝓤 H 𝓜 𝓡 code.env .C) (tables 𝓤 H 𝓜 𝓡 code.env .Λ) #lent code.function (code.unfolded 𝓤 H 𝓜 𝓡)
     (lent-meets 𝓤 H (𝓖 .A) (givenOf 𝓤 H 𝓜 𝓖) (𝓜 .mem) (𝓡 .run) (tablesOf 𝓤 H 𝓜 (tables 𝓤 H 𝓜 𝓡 code.env))
-    (cited 𝓤 H (Core 𝓤 H (𝓖 .A) (𝓜 .mem) (𝓡 .run)) 𝓜 𝓡 code.env #by-value core-def.routine code.calls-simplex·simplex·VoronoiSimplex·project-origin-and-reduce (core-thm.met 𝓤 H 𝓜 𝓖 𝓡)))
+    (cited 𝓤 H (Core 𝓤 H (𝓖 .A) (𝓜 .mem) (𝓡 .run)) 𝓜 𝓡 code.env #by-value core-def.routine code.calls-reduction·project-origin-and-reduce (core-thm.met 𝓤 H 𝓜 𝓖 𝓡)))

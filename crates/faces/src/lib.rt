@@ -1,0 +1,135 @@
+// Faces: `Face` of epa3.rs, with `ccw_face_normal` of utils.
+ghost use mathlib.Core.Path.{_≡_};
+ghost use lib.Ieee.{binary32};
+ghost use Rattle.polytope.specs.Face.{faceNormal, faceNew, weightsOr, holdsAt};
+ghost use Rattle.polytope.specs.Walk.{nextCcwPtId, facing, question};
+ghost use Rattle.polytope.specs.Polytope.{weighted, answerOf, canBeSeenBy};
+use polytope::End;
+use polytope::Found;
+use polytope::Made;
+use polytope::Question;
+use projection::BarycentricCoordinates;
+use projection::Triangle;
+use projection::TrianglePointLocation;
+use projection::is_inside_eps;
+use stores::normal_of;
+use stores::three_at;
+use stores::vertex_at;
+use stores::weights_of;
+use vector::Vec3;
+
+// `ccw_face_normal`, or zero where it has none.
+fn face_normal(a: Vec3, b: Vec3, c: Vec3) -> Vec3
+    ensures { λ r. ⌜ r ≡ faceNormal binary32 a b c ⌝ }
+{
+    let ab = b.sub(a);
+    let ac = c.sub(a);
+    ab.cross(ac).normalize_or_zero()
+}
+
+// `unwrap`, and zeros for a solid.
+fn weights_or(w: BarycentricCoordinates) -> Vec3
+    ensures { λ r. ⌜ r ≡ weightsOr w ⌝ }
+{
+    match w {
+        BarycentricCoordinates::Some(x, y, z) => Vec3 { x, y, z },
+        BarycentricCoordinates::None => Vec3::ZERO,
+        BarycentricCoordinates::Refused => Vec3::ZERO,
+    }
+}
+
+// Whether a face holds a projection there: at a corner or on an edge if it is `near` the origin.
+fn holds_at(near: bool, location: TrianglePointLocation) -> bool
+    ensures { λ r. ⌜ r ≡ holdsAt near location ⌝ }
+{
+    match location {
+        TrianglePointLocation::OnVertex(_) => near,
+        TrianglePointLocation::OnEdge(_, _, _) => near,
+        TrianglePointLocation::OnFace(_, _, _, _) => true,
+        TrianglePointLocation::OnSolid => false,
+    }
+}
+
+// `Face::new`
+pub fn face_new(a: Vec3, b: Vec3, c: Vec3) -> Made
+    ensures { λ r. ⌜ r ≡ faceNew binary32 a b c ⌝ }
+{
+    let tri = Triangle { a, b, c };
+    let proj = tri.project_local_point_and_get_location(Vec3::ZERO);
+    let location = proj.location;
+    let near = is_inside_eps(proj.point, number::polytope_tol());
+    Made {
+        normal: face_normal(a, b, c),
+        weights: weights_or(location.barycentric_coordinates()),
+        holds: holds_at(near, location),
+    }
+}
+
+// The sum of three points by their weights.
+fn weighted_sum(u: Vec3, a: Vec3, b: Vec3, c: Vec3) -> Vec3
+    ensures { λ r. ⌜ r ≡ weighted binary32 u a b c ⌝ }
+{
+    let ab = a.scale(u.x).add(b.scale(u.y));
+    ab.add(c.scale(u.z))
+}
+
+// `Face::closest_points` of the face i, with its normal.
+pub fn answer_of(why: Found, vertices: &[f32], pts: &[usize], nums: &[f32], i: usize) -> End
+    ensures { λ r. ⌜ r ≡ answerOf binary32 why (now (vertices .entry)) (now (pts .entry)) (now (nums .entry)) i ⌝ }
+{
+    let a = vertex_at(vertices, three_at(pts, i, 0));
+    let b = vertex_at(vertices, three_at(pts, i, 1));
+    let c = vertex_at(vertices, three_at(pts, i, 2));
+    let u = weights_of(nums, i);
+    let point1 = weighted_sum(u, a.orig1, b.orig1, c.orig1);
+    let point2 = weighted_sum(u, a.orig2, b.orig2, c.orig2);
+    End::Answers(why, point1, point2, normal_of(nums, i))
+}
+
+// `next_ccw_pt_id`: the corner after that of the face which is the vertex `id`.
+pub fn next_ccw_pt_id(pts: &[usize], face: usize, id: usize) -> usize
+    ensures { λ r. ⌜ r ≡ nextCcwPtId (now (pts .entry)) face id ⌝ }
+{
+    if three_at(pts, face, 0) == id {
+        return 1;
+    }
+    if three_at(pts, face, 1) == id {
+        return 2;
+    }
+    0
+}
+
+// The question to the neighbour k of the face.
+pub fn facing_at(pts: &[usize], adj: &[usize], face: usize, k: usize) -> Question
+    ensures { λ r. ⌜ r ≡ facing (now (pts .entry)) (now (adj .entry)) face k ⌝ }
+{
+    let next = three_at(adj, face, k);
+    let corner = next_ccw_pt_id(pts, next, three_at(pts, face, k));
+    Question { face: next, corner }
+}
+
+// `can_be_seen_by`: whether the face is seen from the vertex `point`. Its side opposite the corner `opp_pt_id` is the one
+// that the walk came across.
+pub fn can_be_seen_by(
+    vertices: &[f32],
+    pts: &[usize],
+    nums: &[f32],
+    point: usize,
+    face: usize,
+    opp_pt_id: usize,
+) -> bool
+    ensures { λ r. ⌜ r ≡ canBeSeenBy binary32 (now (vertices .entry)) (now (pts .entry)) (now (nums .entry)) point (question face «opp_pt_id») ⌝ }
+{
+    let p0 = vertex_at(vertices, three_at(pts, face, opp_pt_id)).point;
+    // `% 3` first, so that no sum overflows; the value is the Rust's
+    let p1 = vertex_at(vertices, three_at(pts, face, (opp_pt_id % 3 + 1) % 3)).point;
+    let p2 = vertex_at(vertices, three_at(pts, face, (opp_pt_id % 3 + 2) % 3)).point;
+    let pt = vertex_at(vertices, point).point;
+    let away = pt.sub(p0).dot(normal_of(nums, face));
+    let tri = Triangle {
+        a: p1,
+        b: p2,
+        c: pt,
+    };
+    (away >= -number::eps_tol()) | tri.is_affinely_dependent()
+}

@@ -1,0 +1,3 @@
+-- What the functions' proofs cite: steps in pairs, and the steps of the first faces.
+pub mod Pairing
+pub mod Starting

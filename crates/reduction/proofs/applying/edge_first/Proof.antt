@@ -1,0 +1,33 @@
+-- `edge_first` returns `edgeFirst`, edge by edge.
+use borrow.Author.Needs.{needs}
+use borrow.Author.Tests.{eq-eqb, ne-eqb}
+use Rattle.reduction.specs.Reduction.{edgeFirst}
+use Rattle.reduction.proofs.applying.edge_first.Statement.{statement}
+use Rattle.reduction.proofs.applying.edge_first.Tie as tie
+
+returns : tie.Need-returns
+unfolding edgeFirst
+returns c = simp (eq-eqb _ _ (c .if1 .taken))
+
+returns-2 : tie.Need-returns-2
+unfolding edgeFirst
+returns-2 c = simp (← c .swapped .ensures, eq-eqb _ _ (c .before .if2 .taken), ne-eqb _ _ (c .before .before .if1 .left))
+
+returns-3 : tie.Need-returns-3
+unfolding edgeFirst
+returns-3 c = simp (← c .swapped2 .ensures, eq-eqb _ _ (c .before .if3 .taken), ne-eqb _ _ (c .before .before .if2 .left), ne-eqb _ _ (c .before .before .before .if1 .left))
+
+returns-4 : tie.Need-returns-4
+unfolding edgeFirst
+returns-4 c = simp (← c .swapped3 .ensures, eq-eqb _ _ (c .before .if4 .taken), ne-eqb _ _ (c .before .before .if3 .left), ne-eqb _ _ (c .before .before .before .if2 .left), ne-eqb _ _ (c .before .before .before .before .if1 .left))
+
+returns-5 : tie.Need-returns-5
+unfolding edgeFirst
+returns-5 c = simp (← c .swapped4 .ensures, eq-eqb _ _ (c .before .if5 .taken), ne-eqb _ _ (c .before .before .if4 .left), ne-eqb _ _ (c .before .before .before .if3 .left), ne-eqb _ _ (c .before .before .before .before .if2 .left), ne-eqb _ _ (c .before .before .before .before .before .if1 .left))
+
+returns-6 : tie.Need-returns-6
+unfolding edgeFirst
+returns-6 c = simp (← c .before .swapped5 .ensures, ← c .swapped6 .ensures, ne-eqb _ _ (c .before .before .if5 .left), ne-eqb _ _ (c .before .before .before .if4 .left), ne-eqb _ _ (c .before .before .before .before .if3 .left), ne-eqb _ _ (c .before .before .before .before .before .if2 .left), ne-eqb _ _ (c .before .before .before .before .before .before .if1 .left))
+
+pub edge-first-spec : {M : Type 1} → statement M
+edge-first-spec = tie.close (tie.spec returns (λ c κs. tt) returns-2 (λ c κs. tt) returns-3 (λ c κs. tt) returns-4 (λ c κs. tt) returns-5 (λ c κs. tt) (λ c κs. tt) returns-6)

@@ -1,0 +1,2 @@
+-- What the contracts of this crate cite: the projection on a tetrahedron.
+pub mod Tetrahedron

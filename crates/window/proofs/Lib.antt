@@ -1,0 +1,2 @@
+-- What the proof of the move cites.
+pub mod Fronts

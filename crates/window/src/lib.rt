@@ -1,0 +1,56 @@
+// The window that a case file is read through, and how what is not read of it comes to the start of its buffer.
+ghost use mathlib.Core.Path.{_≡_};
+ghost use Rattle.window.specs.Window.{offsetOf, restOf, movedOf, frontOf};
+
+// The part of the file that is in a buffer: the offset of the buffer's first byte in the file, the place of the next
+// record, the end of what was read, and whether the file ends there.
+pub struct Window {
+    pub base: u64,
+    pub from: usize,
+    pub until: usize,
+    pub ended: bool,
+}
+
+// The offset in the file of a place in the buffer.
+pub fn offset_of(base: u64, place: usize) -> u64
+    ensures { λ r. ⌜ r ≡ offsetOf base place ⌝ }
+{
+    std::num::wrapping_add_u64(base, place as u64)
+}
+
+// The bytes that are not read yet.
+pub fn rest_of(from: usize, until: usize) -> usize
+    ensures { λ r. ⌜ r ≡ restOf «from» until ⌝ }
+{
+    if from <= until { until - from } else { 0 }
+}
+
+// The window once those bytes stand at the start of the buffer.
+pub fn moved(w: Window) -> Window
+    ensures { λ r. ⌜ r ≡ movedOf w ⌝ }
+{
+    Window {
+        base: offset_of(w.base, w.from),
+        from: 0,
+        until: rest_of(w.from, w.until),
+        ended: w.ended,
+    }
+}
+
+// Those bytes are put there, where the window lies in the buffer: each goes to a place before its own, or stays.
+pub fn to_front(bytes: &mut [u8], from: usize, until: usize)
+    ensures { λ _. ⌜ now (bytes .exit) ≡ frontOf (now (bytes .entry)) «from» until ⌝ }
+{
+    if bytes.len() < until {
+        return;
+    }
+    if until < from {
+        return;
+    }
+    let n = until - from;
+    let mut i = 0;
+    while i < n {
+        bytes[i] = bytes[from + i];
+        i += 1;
+    }
+}

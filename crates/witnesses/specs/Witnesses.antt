@@ -1,0 +1,44 @@
+-- `result` of src/query/gjk/gjk.rs: the two witness points, weighted over the vertices of a simplex. Definitions only.
+use Prim.Native.Nat.{ℕ, zero, suc, _+_}
+use mathlib.Core.Bool.{Bool, cond}
+use lib.Dec.{ltb}
+use lib.Ieee.{Format}
+use Rattle.vector.specs.Vector.{zeroV, addV, scaleV}
+use Rattle.simplex.specs.declared.simplex.VoronoiSimplex.{VoronoiSimplex}
+use Rattle.simplex.specs.declared.operations.Number.{Number}
+use Rattle.simplex.specs.declared.operations.Number.the-variants as Weight
+use Rattle.simplex.specs.declared.operations.Corner.{Corner}
+use Rattle.simplex.specs.declared.operations.Corner.the-variants as Vertices
+use Rattle.simplex.specs.Operations.{projCoord, cornerPoint, prevProjCoord, prevPoint}
+use Rattle.witnesses.specs.declared.Witnesses.{Witnesses}
+use Rattle.witnesses.specs.declared.Witnesses.the-variants.{At, Refused}
+
+-- the previous weights, vertices and dimension, or the present ones
+unfoldable pub weightOf : VoronoiSimplex → Bool → ℕ → Number
+weightOf s prev i = cond prev (prevProjCoord s i) (projCoord s i)
+
+unfoldable pub cornerOf : VoronoiSimplex → Bool → ℕ → Corner
+cornerOf s prev i = cond prev (prevPoint s i) (cornerPoint s i)
+
+unfoldable pub lastOf : VoronoiSimplex → Bool → ℕ
+lastOf s prev = cond prev (s .«prev_dim») (s .dim)
+
+module _ (f : Format) where
+  -- one turn of the loop: `res.0 += point.orig1 * coord; res.1 += point.orig2 * coord`. Refused where a reader is.
+  abbrev pub weighed : Witnesses → Number → Corner → Witnesses
+  weighed (At r1 r2) (Weight.Is c) (Vertices.At v) = At (addV f r1 (scaleV f (v .orig1) c)) (addV f r2 (scaleV f (v .orig2) c))
+  weighed (At r1 r2) (Weight.Is c) Vertices.Refused = Refused
+  weighed (At r1 r2) Weight.Refused v = Refused
+  weighed Refused c v = Refused
+
+  unfoldable pub withVertex : VoronoiSimplex → Bool → ℕ → Witnesses → Witnesses
+  withVertex s prev i sum = weighed sum (weightOf s prev i) (cornerOf s prev i)
+
+  -- the first n vertices
+  unfoldable pub witnessesTo : VoronoiSimplex → Bool → ℕ → Witnesses
+  witnessesTo s prev zero = At zeroV zeroV
+  witnessesTo s prev (suc n) = withVertex s prev n (witnessesTo s prev n)
+
+  -- a simplex has at most four
+  unfoldable pub resultOf : VoronoiSimplex → Bool → Witnesses
+  resultOf s prev = let last = lastOf s prev in cond (ltb last 4) (witnessesTo s prev (last + 1)) Refused

@@ -1,0 +1,46 @@
+-- Encodings that went into a slice: of some numbers and then of others is of both in one, and how long they are at most. Assumes nothing.
+use Prim.Native.Nat.{ℕ, _*_, _≤_}
+use mathlib.Core.List.{List, [], _∷_, _++_, append-nil}
+use native.Mathlib.Omega.{arith}
+use lib.ListN.{length, length-append}
+use Rattle.shape.specs.declared.shape.Shape.{Shape}
+use Rattle.shape.specs.declared.shape.Shape.the-variants.{Ball, Cuboid, Capsule, Triangle}
+use Rattle.casefile.specs.declared.records.Case.{Case}
+use Rattle.casefile.specs.Numbers.{encode}
+use Rattle.lines.specs.Text.{Put}
+use Rattle.casefile.specs.Records.{encodeAll, shapeWords, shapeNumbers, wordsOf, encodeCase, poseWords, vectorWords, bitsOf, flagOf}
+use Rattle.casefile.proofs.Groups.{encode-length}
+use Rattle.lines.proofs.Puts.{then}
+use Rattle.writing.proofs.RecordTrip.{encode-append}
+
+pub one : {o o′ : List ℕ} {at next : ℕ} (v : ℕ) → Put o at (encode v) o′ next → Put o at (encodeAll (v ∷ [])) o′ next
+unfolding encodeAll
+one v p = rw (append-nil (encode v)) p
+
+pub then-all : {o o′ o″ : List ℕ} {at next last : ℕ} (a b : List ℕ) → Put o at (encodeAll a) o′ next → Put o′ next (encodeAll b) o″ last → Put o at (encodeAll (a ++ b)) o″ last
+then-all a b p q = rw (encode-append a b) (then p q)
+
+pub all-length : (w : List ℕ) → length (encodeAll w) ≤ 5 * length w
+unfolding encodeAll
+all-length [] = omega arith
+all-length (n ∷ w) = omega (arith, length-append (encode n) (encodeAll w), encode-length n, all-length w)
+
+shape-count : (g : Shape) → length (shapeNumbers (shapeWords g)) ≤ 10
+unfolding shapeWords
+shape-count (Ball r) = omega arith
+shape-count (Cuboid x y z) = omega arith
+shape-count (Capsule ax ay az bx by bz r) = omega arith
+shape-count (Triangle ax ay az bx by bz cx cy cz) = omega arith
+
+pub shape-length : (g : Shape) → length (encodeAll (shapeNumbers (shapeWords g))) ≤ 50
+shape-length g = omega (arith, all-length (shapeNumbers (shapeWords g)), shape-count g)
+
+pub case-length : (c : Case) → length (encodeCase (wordsOf c)) ≤ 160
+unfolding encodeCase wordsOf
+case-length c =
+    let a = shapeNumbers (shapeWords (c .g1)) in
+    let b = shapeNumbers (shapeWords (c .g2)) in
+    let n = poseWords (c .pos12) ++ vectorWords (c .dir) ++ bitsOf (c .«max_dist») ∷ [] in
+    let f = flagOf (c .exact) ∷ [] in
+    let e : length (a ++ b ++ n ++ f) ≤ 32 = simp length-append (omega (arith, shape-count (c .g1), shape-count (c .g2))) in
+    omega (arith, all-length (a ++ b ++ n ++ f))
