@@ -1,4 +1,4 @@
-// Faces: `Face` of epa3.rs, with `ccw_face_normal` of utils.
+// Faces: `Face` of epa3.rs, with `ccw_face_normal` of utils. What each function returns is a definition of the crate `polytope`, at binary32.
 ghost use mathlib.Core.Path.{_≡_};
 ghost use lib.Ieee.{binary32};
 ghost use Rattle.polytope.specs.Face.{faceNormal, faceNew, weightsOr, holdsAt};
