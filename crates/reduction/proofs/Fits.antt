@@ -51,18 +51,18 @@ tetrahedron-found : (x : TetrahedronProjection) → TetrahedronFits x → Locate
 tetrahedron-found _ (TetrahedronFits.at p l h) = LocatedFits.at p _ (SimplexHas.tetrahedron l h)
 tetrahedron-found _ TetrahedronFits.refused = LocatedFits.refused
 
-module _ (f : Format) (s : VoronoiSimplex) where
-  on-segment : LocatedFits 1 (locateSegment f s)
+module _ (f : Format) (a b : Vec3) where
+  on-segment : LocatedFits 1 (locateSegment f a b)
   unfolding locateSegment
   on-segment = segment-found _ (segment-fits f _ zeroV)
 
-  on-triangle : LocatedFits 2 (locateTriangle f s)
+  on-triangle : (c : Vec3) → LocatedFits 2 (locateTriangle f a b c)
   unfolding locateTriangle
-  on-triangle = LocatedFits.at _ _ (SimplexHas.triangle _ (triangle-fits f _ zeroV))
+  on-triangle c = LocatedFits.at _ _ (SimplexHas.triangle _ (triangle-fits f _ zeroV))
 
-  on-tetrahedron : LocatedFits 3 (locateTetrahedron f s)
+  on-tetrahedron : (c d : Vec3) → LocatedFits 3 (locateTetrahedron f a b c d)
   unfolding locateTetrahedron
-  on-tetrahedron = tetrahedron-found _ (tetrahedron-fits f _ zeroV)
+  on-tetrahedron c d = tetrahedron-found _ (tetrahedron-fits f _ zeroV)
 
 -- by the dimension d
 by-dimension : (d : ℕ) (a b c e : Located) → d ≤ 3 → LocatedFits 0 a → LocatedFits 1 b → LocatedFits 2 c → LocatedFits 3 e
@@ -76,7 +76,7 @@ by-dimension (suc (suc (suc (suc d)))) a b c e l ha hb hc he = absurd (omega ari
 -- the location that is found is one that the simplex has
 pub location-fits : (f : Format) (s : VoronoiSimplex) → s .dim ≤ 3 → LocatedFits (s .dim) (findLocation f s)
 unfolding findLocation
-location-fits f s h = by-dimension (s .dim) _ _ _ _ h (LocatedFits.at _ _ SimplexHas.point) (on-segment f s) (on-triangle f s) (on-tetrahedron f s)
+location-fits f s h = by-dimension (s .dim) _ _ _ _ h (LocatedFits.at _ _ SimplexHas.point) (on-segment f _ _) (on-triangle f _ _ _) (on-tetrahedron f _ _ _ _)
 
 -- ---- what is applied
 

@@ -46,25 +46,27 @@ tetrahedronLocated (TetrahedronAnswer.At p l) = Found.At p (OnTetrahedron l)
 tetrahedronLocated TetrahedronAnswer.Refused = Found.Refused
 
 module _ (f : Format) where
-  unfoldable pub locateSegment : VoronoiSimplex → Located
-  locateSegment s =
-      segmentLocated (projectSegment f (record { a = vertexAt s 0 .point; b = vertexAt s 1 .point }) zeroV)
+  unfoldable pub locateSegment : Vec3 → Vec3 → Located
+  locateSegment a b = segmentLocated (projectSegment f (record { a = a; b = b }) zeroV)
 
-  unfoldable pub locateTriangle : VoronoiSimplex → Located
-  locateTriangle s =
-      let proj = projectTriangle f (record { a = vertexAt s 0 .point; b = vertexAt s 1 .point; c = vertexAt s 2 .point }) zeroV in
+  unfoldable pub locateTriangle : Vec3 → Vec3 → Vec3 → Located
+  locateTriangle a b c =
+      let proj = projectTriangle f (record { a = a; b = b; c = c }) zeroV in
       Found.At (proj .point) (OnTriangle (proj .location))
 
-  unfoldable pub locateTetrahedron : VoronoiSimplex → Located
-  locateTetrahedron s =
-      tetrahedronLocated
-      (projectTetrahedron f (record { a = vertexAt s 0 .point; b = vertexAt s 1 .point; c = vertexAt s 2 .point; d = vertexAt s 3 .point }) zeroV)
+  unfoldable pub locateTetrahedron : Vec3 → Vec3 → Vec3 → Vec3 → Located
+  locateTetrahedron a b c d = tetrahedronLocated (projectTetrahedron f (record { a = a; b = b; c = c; d = d }) zeroV)
 
+  -- by the dimension
   unfoldable pub findLocation : VoronoiSimplex → Located
   findLocation s =
-      cond (eqb (s .dim) 0) (Found.At (vertexAt s 0 .point) OnPoint)
-      (cond (eqb (s .dim) 1) (locateSegment s)
-      (cond (eqb (s .dim) 2) (locateTriangle s) (locateTetrahedron s)))
+      let a = vertexAt s 0 .point in
+      let b = vertexAt s 1 .point in
+      let c = vertexAt s 2 .point in
+      let d = vertexAt s 3 .point in
+      cond (eqb (s .dim) 0) (Found.At a OnPoint)
+      (cond (eqb (s .dim) 1) (locateSegment a b)
+      (cond (eqb (s .dim) 2) (locateTriangle a b c) (locateTetrahedron a b c d)))
 
 -- ---- applying it
 

@@ -26,13 +26,9 @@ pub enum Located {
     Refused,
 }
 
-fn locate_segment(s: VoronoiSimplex) -> Located
-    ensures { λ r. ⌜ r ≡ locateSegment binary32 s ⌝ }
+fn locate_segment(a: Vec3, b: Vec3) -> Located
+    ensures { λ r. ⌜ r ≡ locateSegment binary32 a b ⌝ }
 {
-    let v0 = s.vertices[0];
-    let v1 = s.vertices[1];
-    let a = v0.point;
-    let b = v1.point;
     let segment = Segment { a, b };
     match segment.project_local_point_and_get_location(Vec3::ZERO) {
         SegmentProjection::At(point, location) => {
@@ -42,15 +38,9 @@ fn locate_segment(s: VoronoiSimplex) -> Located
     }
 }
 
-fn locate_triangle(s: VoronoiSimplex) -> Located
-    ensures { λ r. ⌜ r ≡ locateTriangle binary32 s ⌝ }
+fn locate_triangle(a: Vec3, b: Vec3, c: Vec3) -> Located
+    ensures { λ r. ⌜ r ≡ locateTriangle binary32 a b c ⌝ }
 {
-    let v0 = s.vertices[0];
-    let v1 = s.vertices[1];
-    let v2 = s.vertices[2];
-    let a = v0.point;
-    let b = v1.point;
-    let c = v2.point;
     let triangle = Triangle { a, b, c };
     let proj = triangle.project_local_point_and_get_location(Vec3::ZERO);
     let point = proj.point;
@@ -58,17 +48,9 @@ fn locate_triangle(s: VoronoiSimplex) -> Located
     Located::At(point, Location::OnTriangle(location))
 }
 
-fn locate_tetrahedron(s: VoronoiSimplex) -> Located
-    ensures { λ r. ⌜ r ≡ locateTetrahedron binary32 s ⌝ }
+fn locate_tetrahedron(a: Vec3, b: Vec3, c: Vec3, d: Vec3) -> Located
+    ensures { λ r. ⌜ r ≡ locateTetrahedron binary32 a b c d ⌝ }
 {
-    let v0 = s.vertices[0];
-    let v1 = s.vertices[1];
-    let v2 = s.vertices[2];
-    let v3 = s.vertices[3];
-    let a = v0.point;
-    let b = v1.point;
-    let c = v2.point;
-    let d = v3.point;
     let tetrahedron = Tetrahedron { a, b, c, d };
     match tetrahedron.project_local_point_and_get_location(Vec3::ZERO) {
         TetrahedronProjection::At(point, location) => {
@@ -82,16 +64,22 @@ fn locate_tetrahedron(s: VoronoiSimplex) -> Located
 pub fn find_location(s: VoronoiSimplex) -> Located
     ensures { λ r. ⌜ r ≡ findLocation binary32 s ⌝ }
 {
+    let v0 = s.vertices[0];
+    let a = v0.point;
     if s.dim == 0 {
-        let v0 = s.vertices[0];
-        let point = v0.point;
-        return Located::At(point, Location::OnPoint);
+        return Located::At(a, Location::OnPoint);
     }
+    let v1 = s.vertices[1];
+    let b = v1.point;
     if s.dim == 1 {
-        return locate_segment(s);
+        return locate_segment(a, b);
     }
+    let v2 = s.vertices[2];
+    let c = v2.point;
     if s.dim == 2 {
-        return locate_triangle(s);
+        return locate_triangle(a, b, c);
     }
-    locate_tetrahedron(s)
+    let v3 = s.vertices[3];
+    let d = v3.point;
+    locate_tetrahedron(a, b, c, d)
 }

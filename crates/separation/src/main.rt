@@ -6,7 +6,7 @@ use libc::STDERR_FILENO;
 use libc::STDIN_FILENO;
 use libc::STDOUT_FILENO;
 use lines::Placed;
-use stream::Turn;
+use window::Turn;
 use window::Window;
 
 // `stream` answers no more than 4,294,967,295 records; the loop goes one further and so ends by itself.

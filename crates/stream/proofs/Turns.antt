@@ -14,10 +14,10 @@ use Rattle.lines.specs.declared.text.Placed.{Placed}
 use Rattle.lines.specs.Text.{after, placeOf}
 use Rattle.lines.specs.Lines.{lineOf, badLine}
 use Rattle.epa.specs.Final.{finalBy, answered}
-use Rattle.stream.specs.declared.Turn.{Turn}
-use Rattle.stream.specs.declared.Turn.the-variants as Turn
-use Rattle.window.specs.Window.{offsetOf}
-use Rattle.stream.specs.Stream.{Told, told, caseOutcome, lineTurn, badTurn, lineTold, badTold, turnBy, mostRecords, turnOf}
+use Rattle.window.specs.declared.Turn.{Turn}
+use Rattle.window.specs.declared.Turn.the-variants as Turn
+use Rattle.window.specs.Window.{offsetOf, lineTurn, badTurn}
+use Rattle.stream.specs.Stream.{Told, told, caseOutcome, lineTold, badTold, turnBy, mostRecords, turnOf}
 
 module _ (s : List ℕ) (at base number : ℕ) (o : List ℕ) (place : ℕ) (v : List Float) (p a : List ℕ) (n : List Float) (d ef ec hf : List ℕ) (hk : List Float) where
   pub all-read : mostRecords < number → finalBy (told Turn.AllRead o) v p a n d ef ec hf hk ≡ turnOf s at base number o place v p a n d ef ec hf hk

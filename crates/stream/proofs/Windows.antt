@@ -18,10 +18,10 @@ use Rattle.lines.specs.declared.text.Placed.the-variants as Place
 use Rattle.lines.specs.Text.{placeOf}
 use Rattle.lines.specs.Lines.{lineOf, badLine}
 use Rattle.epa.specs.Final.{Final, finalBy, answered}
-use Rattle.stream.specs.declared.Turn.{Turn}
-use Rattle.stream.specs.declared.Turn.the-variants as Turn
-use Rattle.window.specs.Window.{offsetOf}
-use Rattle.stream.specs.Stream.{Told, told, caseOutcome, lineTurn, badTurn, badTold, turnBy, mostRecords, turnOf}
+use Rattle.window.specs.declared.Turn.{Turn}
+use Rattle.window.specs.declared.Turn.the-variants as Turn
+use Rattle.window.specs.Window.{offsetOf, lineTurn, badTurn}
+use Rattle.stream.specs.Stream.{Told, told, caseOutcome, badTold, turnBy, mostRecords, turnOf}
 
 -- ---- the same turn, with the next record's place k further on
 

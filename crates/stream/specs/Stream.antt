@@ -8,15 +8,13 @@ use Rattle.casefile.specs.declared.records.Case.{Case}
 use Rattle.casefile.specs.declared.records.CaseAnswer.{CaseAnswer}
 use Rattle.casefile.specs.Records.{readCase, caseValue}
 use Rattle.lines.specs.declared.line.Outcome.{Outcome}
-use Rattle.lines.specs.declared.text.Placed.{Placed}
-use Rattle.lines.specs.declared.text.Placed.the-variants as Place
 use Rattle.lines.specs.Text.{After, placeOf}
 use Rattle.lines.specs.Lines.{lineOf, badLine}
 use Rattle.epa.specs.Final.{Final, finalBy, answered}
 use Rattle.channel.specs.Channel.{separated}
-use Rattle.window.specs.Window.{offsetOf}
-use Rattle.stream.specs.declared.Turn.{Turn}
-use Rattle.stream.specs.declared.Turn.the-variants as Turn
+use Rattle.window.specs.declared.Turn.{Turn}
+use Rattle.window.specs.declared.Turn.the-variants as Turn
+use Rattle.window.specs.Window.{offsetOf, lineTurn, badTurn}
 
 abbrev pub caseOutcome : Case → List Float → List ℕ → List ℕ → List Float → List ℕ → List ℕ → List ℕ → List ℕ → List Float → Final Outcome
 caseOutcome c v p a n d ef ec hf hk = separated (c .pos12) (c .g1) (c .g2) (c .dir) (c .«max_dist») (c .exact) v p a n d ef ec hf hk
@@ -28,15 +26,6 @@ pub record Told : Type 0 where
 
 abbrev pub told : Turn → List ℕ → Told
 told t o = record { turn = t; out = o }
-
--- of a line that was written, or had no room: with the place of the next record, or none
-abbrev pub lineTurn : ℕ → Placed → Turn
-lineTurn next (Place.Next k) = Turn.Line next k
-lineTurn next Place.NoRoom = Turn.NoRoom
-
-abbrev pub badTurn : Placed → Turn
-badTurn (Place.Next k) = Turn.Stopped k
-badTurn Place.NoRoom = Turn.NoRoom
 
 abbrev pub lineTold : ℕ → After → Told
 lineTold next x = told (lineTurn next (x .answer)) (x .bytes)

@@ -2,42 +2,14 @@
 // what a turn reads and writes is here, on slices.
 ghost use mathlib.Core.Path.{_≡_};
 ghost use Rattle.epa.specs.Final.{finalBy};
-ghost use Rattle.stream.specs.Stream.{told, lineTurn, badTurn, turnOf};
+ghost use Rattle.stream.specs.Stream.{told, turnOf};
 use casefile::CaseAnswer;
-use lines::Placed;
+use window::Turn;
+use window::bad_turn;
+use window::line_turn;
 
 // Document 01: after so many records a run stops as at the file's end.
 const MOST_RECORDS: u64 = 4_294_967_295;
-
-// What one turn did.
-pub enum Turn {
-    // A record's line was written: the place of the next record, and of the next line.
-    Line { next: usize, place: usize },
-    // In its place `bad` was: the place after it. Reading stops.
-    Stopped(usize),
-    // The output has no room for the line: nothing was written to it.
-    NoRoom,
-    // So many records were answered that no more is read: nothing was written.
-    AllRead,
-}
-
-fn line_turn(next: usize, placed: Placed) -> Turn
-    ensures { λ r. ⌜ r ≡ lineTurn next placed ⌝ }
-{
-    match placed {
-        Placed::Next(place) => Turn::Line { next, place },
-        Placed::NoRoom => Turn::NoRoom,
-    }
-}
-
-fn bad_turn(placed: Placed) -> Turn
-    ensures { λ r. ⌜ r ≡ badTurn placed ⌝ }
-{
-    match placed {
-        Placed::Next(place) => Turn::Stopped(place),
-        Placed::NoRoom => Turn::NoRoom,
-    }
-}
 
 // The record at the place `at` of the bytes, whose first has the offset `base` in the file, is read and answered, and its
 // line goes to the places of `out` from `place` on. The bytes are the file's rest, or at least 160 from `at` on: then the

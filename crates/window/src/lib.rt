@@ -1,6 +1,7 @@
-// The window that a case file is read through, and how what is not read of it comes to the start of its buffer.
+// The window that a case file is read through, how what is not read of it comes to the start of its buffer, and what a turn did.
 ghost use mathlib.Core.Path.{_≡_};
-ghost use Rattle.window.specs.Window.{offsetOf, restOf, movedOf, frontOf};
+ghost use Rattle.window.specs.Window.{offsetOf, restOf, movedOf, frontOf, lineTurn, badTurn};
+use lines::Placed;
 
 // The part of the file that is in a buffer: the offset of the buffer's first byte in the file, the place of the next
 // record, the end of what was read, and whether the file ends there.
@@ -52,5 +53,37 @@ pub fn to_front(bytes: &mut [u8], from: usize, until: usize)
     while i < n {
         bytes[i] = bytes[from + i];
         i += 1;
+    }
+}
+
+// What one turn did.
+pub enum Turn {
+    // A record's line was written: the place of the next record, and of the next line.
+    Line { next: usize, place: usize },
+    // In its place `bad` was: the place after it. Reading stops.
+    Stopped(usize),
+    // The output has no room for the line: nothing was written to it.
+    NoRoom,
+    // So many records were answered that no more is read: nothing was written.
+    AllRead,
+}
+
+// A line was written, or had no room.
+pub fn line_turn(next: usize, placed: Placed) -> Turn
+    ensures { λ r. ⌜ r ≡ lineTurn next placed ⌝ }
+{
+    match placed {
+        Placed::Next(place) => Turn::Line { next, place },
+        Placed::NoRoom => Turn::NoRoom,
+    }
+}
+
+// In its place `bad` was written, or had no room.
+pub fn bad_turn(placed: Placed) -> Turn
+    ensures { λ r. ⌜ r ≡ badTurn placed ⌝ }
+{
+    match placed {
+        Placed::Next(place) => Turn::Stopped(place),
+        Placed::NoRoom => Turn::NoRoom,
     }
 }

@@ -1,5 +1,4 @@
 -- `edge_first` returns `edgeFirst`, edge by edge.
-use borrow.Author.Needs.{needs}
 use borrow.Author.Tests.{eq-eqb, ne-eqb}
 use Rattle.reduction.specs.Reduction.{edgeFirst}
 use Rattle.reduction.proofs.applying.edge_first.Statement.{statement}

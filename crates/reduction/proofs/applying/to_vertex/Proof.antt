@@ -1,5 +1,4 @@
 -- `to_vertex` returns `toVertex`.
-use borrow.Author.Needs.{needs}
 use Rattle.reduction.specs.Reduction.{toVertex}
 use Rattle.reduction.proofs.applying.to_vertex.Statement.{statement}
 use Rattle.reduction.proofs.applying.to_vertex.Tie as tie

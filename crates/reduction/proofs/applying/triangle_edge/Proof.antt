@@ -1,5 +1,4 @@
 -- `triangle_edge` returns `triangleEdge`, edge by edge.
-use borrow.Author.Needs.{needs}
 use borrow.Author.Tests.{eq-eqb, ne-eqb}
 use Rattle.reduction.specs.Reduction.{triangleEdge}
 use Rattle.reduction.proofs.applying.triangle_edge.Statement.{statement}

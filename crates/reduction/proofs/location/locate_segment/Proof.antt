@@ -15,4 +15,4 @@ unfolding locateSegment zeroV ofBits
 returns-2 c = simp (← c .before .before .project-local-point-and-get-location .ensures, c .enum-told .given .1)
 
 pub locate-segment-spec : {M : Type 1} → statement M
-locate-segment-spec = tie.close (tie.spec (λ c. search needs) (λ c. search needs) (λ c κs. tt) (λ c. search needs) (λ c. search needs) returns returns-2)
+locate-segment-spec = tie.close (tie.spec (λ c κs. tt) (λ c. search needs) (λ c. search needs) returns returns-2)

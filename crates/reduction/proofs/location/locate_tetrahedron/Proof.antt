@@ -15,4 +15,4 @@ unfolding locateTetrahedron zeroV ofBits
 returns-2 c = simp (← c .before .before .project-local-point-and-get-location .ensures, c .enum-told .given .1)
 
 pub locate-tetrahedron-spec : {M : Type 1} → statement M
-locate-tetrahedron-spec = tie.close (tie.spec (λ c. search needs) (λ c. search needs) (λ c. search needs) (λ c. search needs) (λ c κs. tt) (λ c. search needs) (λ c. search needs) returns returns-2)
+locate-tetrahedron-spec = tie.close (tie.spec (λ c κs. tt) (λ c. search needs) (λ c. search needs) returns returns-2)

@@ -1,5 +1,4 @@
 -- `locate_triangle` returns `locateTriangle`.
-use borrow.Author.Needs.{needs}
 use lib.Ieee.{ofBits}
 use Rattle.vector.specs.Vector.{zeroV}
 use Rattle.reduction.specs.Reduction.{locateTriangle}
@@ -11,4 +10,4 @@ unfolding locateTriangle zeroV ofBits
 returns c = simp (← c .before .project-local-point-and-get-location .ensures)
 
 pub locate-triangle-spec : {M : Type 1} → statement M
-locate-triangle-spec = tie.close (tie.spec (λ c. search needs) (λ c. search needs) (λ c. search needs) (λ c κs. tt) returns)
+locate-triangle-spec = tie.close (tie.spec (λ c κs. tt) returns)

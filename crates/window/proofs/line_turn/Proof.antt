@@ -1,7 +1,7 @@
 -- What `line_turn` returns. Assumes nothing.
 use borrow.Author.Needs.{needs}
-use Rattle.stream.proofs.line_turn.Statement.{statement}
-use Rattle.stream.proofs.line_turn.Tie as tie
+use Rattle.window.proofs.line_turn.Statement.{statement}
+use Rattle.window.proofs.line_turn.Tie as tie
 
 returns : tie.Need-returns
 returns c = rw (c .before .placed .given .1)

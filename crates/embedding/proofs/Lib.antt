@@ -1,0 +1,2 @@
+-- What the embedding answers, beside the channel.
+pub mod Channel
