@@ -1,5 +1,6 @@
 -- The separation channel: the outcome of two shapes, the second in a pose, and what is left in the lent stores (document 01, "What the channel computes"). Definitions only.
 -- Document 01's number of an outcome is `outcomeNumber` of the crate `lines`; that it is the number of GJK's result, or of the run's end, is shown in proofs/Numbers.antt.
+use mathlib.Core.Path.{_≡_}
 use mathlib.Core.Bool.{Bool}
 use mathlib.Core.List.{List}
 use Prim.Native.Nat.{ℕ}
@@ -15,7 +16,9 @@ use Rattle.gjk.specs.declared.rounds.GJKResult.{GJKResult}
 use Rattle.gjk.specs.declared.rounds.GJKResult.the-variants as Gjk
 use Rattle.gjk.specs.declared.rounds.Gjk.{Gjk}
 use Rattle.gjk.specs.Gjk.{closestPoints}
+use Rattle.polytope.specs.Polytope.{State}
 use Rattle.epa.specs.Final.{Final, finalBy, answered, penetration}
+use Rattle.lines.specs.declared.line.Counts.{Counts}
 use Rattle.lines.specs.declared.line.Outcome.{Outcome}
 use Rattle.lines.specs.declared.line.Outcome.the-variants as Told
 use Rattle.outcome.specs.Outcome.{outcomeOf}
@@ -44,3 +47,13 @@ separatedBy g m g1 g2 v p a n d ef ec hf hk =
 -- from two shapes, a start direction, the largest distance, the exact flag, and nine lent lists
 unfoldable pub separated : Pose → Shape → Shape → Vec3 → Float → Bool → List Float → List ℕ → List ℕ → List Float → List ℕ → List ℕ → List ℕ → List ℕ → List Float → Final Outcome
 separated m g1 g2 dir maxDist exact v p a n d ef ec hf hk = separatedBy (distance m g1 g2 dir maxDist exact) m g1 g2 v p a n d ef ec hf hk
+
+-- the same over lent stores, whose counts are not read
+abbrev pub separatedOver : Pose → Shape → Shape → Vec3 → Float → Bool → State → Final Outcome
+separatedOver m g1 g2 dir maxDist exact s =
+    separated m g1 g2 dir maxDist exact (s .verts .cells) (s .faces .pts) (s .faces .adj) (s .faces .nums) (s .faces .dead) (s .edged .faces) (s .edged .corners) (s .queue .faces)
+    (s .queue .keys)
+
+-- an outcome that is not refused for room: its letter is not R
+abbrev pub Placed : Outcome → Type 0
+Placed o = (c : Counts) → o ≡ Told.NoPlace c → ⊥

@@ -1,4 +1,5 @@
 -- What a whole run answers and leaves in the lent stores, `EPA::closest_points` of src/query/epa/epa3.rs, and document 01's number of each end. Definitions only.
+use mathlib.Core.Path.{_≡_}
 use mathlib.Core.List.{List}
 use Prim.Native.Nat.{ℕ}
 use lib.Ieee.{Float, binary32}
@@ -8,7 +9,8 @@ use Rattle.shape.specs.Support.{fromShapes}
 use Rattle.simplex.specs.declared.simplex.VoronoiSimplex.{VoronoiSimplex}
 use Rattle.polytope.specs.Polytope.{State, stateOf, Out, onward, ended, Nil, liveTo, noneYet, closestPoints}
 use Rattle.polytope.specs.declared.types.End.{End}
-use Rattle.polytope.specs.declared.types.End.the-variants.{Nothing as nothing}
+use Rattle.polytope.specs.declared.types.End.the-variants.{Nothing as nothing, NoRoom as noRoom}
+use Rattle.polytope.specs.declared.types.Store.{Store}
 use Rattle.polytope.specs.declared.types.Lost.the-variants.{NothingQueued as nothingQueued}
 use Rattle.epa.specs.declared.types.Counts.{Counts}
 use Rattle.epa.specs.declared.types.Answer.{Answer}
@@ -47,6 +49,14 @@ abbrev pub finalOf : Out Nil → Final Answer
 finalOf (ended e s) = finalAt e s
 finalOf (onward x s) = finalAt (nothing nothingQueued) s
 
--- the run of two shapes, the second in a pose, from a simplex and nine lent lists
+-- the run of two shapes, the second in a pose, from a simplex, over lent stores whose counts are not read
+abbrev pub penetrationOver : Pose → Shape → Shape → VoronoiSimplex → State → Final Answer
+penetrationOver m g1 g2 x s = finalOf (closestPoints binary32 (fromShapes binary32 m g1 g2) x s)
+
+-- over nine lent lists
 abbrev pub penetration : Pose → Shape → Shape → VoronoiSimplex → List Float → List ℕ → List ℕ → List Float → List ℕ → List ℕ → List ℕ → List ℕ → List Float → Final Answer
-penetration m g1 g2 x v p a n d ef ec hf hk = finalOf (closestPoints binary32 (fromShapes binary32 m g1 g2) x (stateOf v p a n d ef ec hf hk noneYet))
+penetration m g1 g2 x v p a n d ef ec hf hk = penetrationOver m g1 g2 x (stateOf v p a n d ef ec hf hk noneYet)
+
+-- an answer that is not refused for room
+abbrev pub Placed : Answer → Type 0
+Placed x = (y : Store) → x .end ≡ noRoom y → ⊥

@@ -1,3 +1,3 @@
--- What the walks of a run over records need, and that 206 records suffice.
+-- What the walks of a run over records need, and that 206 records suffice, so that the run over records is the run over all their columns.
 pub mod Ample
 pub mod Lent

@@ -9,6 +9,7 @@ use Rattle.shape.specs.declared.shape.Shape.{Shape}
 use Rattle.simplex.specs.declared.simplex.VoronoiSimplex.{VoronoiSimplex}
 use Rattle.edges.specs.declared.Edge.{Edge}
 use Rattle.edges.specs.Edges.{over, records, facesOf, cornersOf}
+use Rattle.polytope.specs.Polytope.{State, stateOf, noneYet}
 use Rattle.epa.specs.declared.types.Answer.{Answer}
 use Rattle.epa.specs.Final.{Final, penetration}
 
@@ -38,3 +39,13 @@ onRecords run es = putBack es (run (facesOf (take 206 es)) (cornersOf (take 206 
 -- the run of two shapes, the second in a pose, from a simplex and eight lent lists
 abbrev pub penetrationEdges : Pose → Shape → Shape → VoronoiSimplex → List Float → List ℕ → List ℕ → List Float → List ℕ → List Edge → List ℕ → List Float → FinalEdges Answer
 penetrationEdges m g1 g2 x v p a n d es hf hk = onRecords (λ ef ec. penetration m g1 g2 x v p a n d ef ec hf hk) es
+
+-- lent stores with the columns of some records for the edges
+abbrev pub columned : State → List Edge → State
+columned s es =
+    stateOf (s .verts .cells) (s .faces .pts) (s .faces .adj) (s .faces .nums) (s .faces .dead) (facesOf es) (cornersOf es) (s .queue .faces) (s .queue .keys) noneYet
+
+-- the run over lent stores, with records in place of their edges
+abbrev pub penetrationRecords : Pose → Shape → Shape → VoronoiSimplex → State → List Edge → FinalEdges Answer
+penetrationRecords m g1 g2 x s es =
+    penetrationEdges m g1 g2 x (s .verts .cells) (s .faces .pts) (s .faces .adj) (s .faces .nums) (s .faces .dead) es (s .queue .faces) (s .queue .keys)

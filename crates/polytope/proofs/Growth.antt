@@ -13,7 +13,7 @@ use Rattle.polytope.specs.declared.types.Made.{Made}
 use Rattle.heap.specs.Heap.{Entry, pushed, popped}
 use Rattle.polytope.specs.Walk.{Walked, walked, edges, facing, passOf}
 use Rattle.polytope.specs.Polytope.{World, State, Rooms, End, noRoom, theEdges, keyLater, Found, newFaceNearer, _>>=_, _>>_, Nil, look, put, doIf, withFaces, withQueue, oneMore, pushFace, liveTo, live, answerOf, answer, delete, meshOf, afterPass, passed, silhouette, link, linkedTo, Turn, queueNew, growAt, grow, growAll, clearEdges, expand, regrow, closeRing, cornerAt, madeOf, threeN}
-use Rattle.polytope.specs.Bounds.{AllIn, Good, Sound, bound, Within, Tight, with-all, Ended, FromPoint}
+use Rattle.polytope.specs.Bounds.{AllIn, Good, Sound, bound, Within, Tight, with-all, Part, theTurns, underWay, underWayFound, Ended, FromPoint}
 use Rattle.polytope.proofs.Basics.{at-set, in-set, all-set, all-as, all-three, but-second, all-none, live-delete, live-push}
 use Rattle.polytope.proofs.Sizes.{bound-suc}
 use Rattle.polytope.proofs.Heaps.{good-pushed}
@@ -59,60 +59,67 @@ module _ (J : State → Type 0) where
     pub noEdges : s .edged .count ≡ 0
 
   -- the face i is deleted
-  record Deleted (f k p i n : ℕ) (s : State) : Type 0 where
-    stage : Stage f k p s
-    same : s .faces .count ≡ n
-    sound : Sound s
-    faceIn : i < s .faces .count
-    lessLive : suc (live s) ≤ f + 2 * k
-    oldMade : s .faces .count ≤ bound f k
-    noEdges : s .edged .count ≡ 0
+  pub record Deleted (f k p i n : ℕ) (s : State) : Type 0 where
+    pub stage : Stage f k p s
+    pub same : s .faces .count ≡ n
+    pub sound : Sound s
+    pub faceIn : i < s .faces .count
+    pub lessLive : suc (live s) ≤ f + 2 * k
+    pub oldMade : s .faces .count ≤ bound f k
+    pub noEdges : s .edged .count ≡ 0
 
   -- n edges are recorded
-  record Lined (f k p n : ℕ) (s : State) : Type 0 where
-    stage : Stage f k p s
-    same : s .faces .count ≡ n
-    sound : Sound s
-    edgesIn : AllIn (s .faces .count) (s .edged .count) (s .edged .faces)
-    cornersIn : AllIn 3 (s .edged .count) (s .edged .corners)
-    roomLive : live s + s .edged .count ≤ f + 2 * suc k
-    roomMade : s .faces .count + s .edged .count ≤ bound f (suc k)
+  pub record Lined (f k p n : ℕ) (s : State) : Type 0 where
+    pub stage : Stage f k p s
+    pub same : s .faces .count ≡ n
+    pub sound : Sound s
+    pub edgesIn : AllIn (s .faces .count) (s .edged .count) (s .edged .faces)
+    pub cornersIn : AllIn 3 (s .edged .count) (s .edged .corners)
+    pub roomLive : live s + s .edged .count ≤ f + 2 * suc k
+    pub roomMade : s .faces .count + s .edged .count ≤ bound f (suc k)
 
   -- of all edges some are left; the last neighbour but one of the last face may be a face to come
-  record Growing (f k p first all left : ℕ) (s : State) : Type 0 where
-    stage : Stage f k p s
-    some : 0 < first
-    firstIn : first ≤ s .faces .count
-    ptsIn : AllIn (s .verts .count) (s .faces .count * 3) (s .faces .pts)
-    nearly : AllIn (s .faces .count + 1) (s .faces .count * 3) (s .faces .adj)
-    butLast : (i : ℕ) → i < s .faces .count * 3 → (i ≡ (s .faces .count - 1) * 3 + 1 → ⊥) → getD (s .faces .adj) i 0 < s .faces .count
-    queueIn : Good (s .faces .count) (s .queue .count) (s .queue)
-    queueFew : s .queue .count ≤ s .faces .count
-    edgesIn : AllIn first all (s .edged .faces)
-    cornersIn : AllIn 3 all (s .edged .corners)
-    roomLive : live s + left ≤ f + 2 * suc k
-    roomMade : s .faces .count + left ≤ bound f (suc k)
+  pub record Growing (f k p first all left : ℕ) (s : State) : Type 0 where
+    pub stage : Stage f k p s
+    pub some : 0 < first
+    pub firstIn : first ≤ s .faces .count
+    pub ptsIn : AllIn (s .verts .count) (s .faces .count * 3) (s .faces .pts)
+    pub nearly : AllIn (s .faces .count + 1) (s .faces .count * 3) (s .faces .adj)
+    pub butLast : (i : ℕ) → i < s .faces .count * 3 → (i ≡ (s .faces .count - 1) * 3 + 1 → ⊥) → getD (s .faces .adj) i 0 < s .faces .count
+    pub queueIn : Good (s .faces .count) (s .queue .count) (s .queue)
+    pub queueFew : s .queue .count ≤ s .faces .count
+    pub edgesIn : AllIn first all (s .edged .faces)
+    pub cornersIn : AllIn 3 all (s .edged .corners)
+    pub allIn : all ≤ s .edged .count
+    pub roomLive : live s + left ≤ f + 2 * suc k
+    pub roomMade : s .faces .count + left ≤ bound f (suc k)
 
-  -- a run's end, from f faces
-  abbrev pub Ending : ℕ → Rooms → End → State → Type 0
-  Ending f r e s = Ended f r e s × J s
+  -- a run's end in the part q, from f faces
+  pub record Ending (q : Part) (f : ℕ) (r : Rooms) (e : End) (s : State) : Type 0 where
+    pub end : Ended f r e s
+    pub inPart : end .part ≡ q
+    pub kept : J s
 
   module _ (r : Rooms) (K : Keeps r J) (f : ℕ) (w : World) (k : ℕ) where
     abbrev E : End → State → Type 0
-    E = Ending f r
+    E = Ending theTurns f r
 
     module _ (u : Turn) where
       -- the run may end at any stage
-      pub end-stage : (e : End) (s : State) → Stage f k (u .point) s → Tight f (suc k) r e → E e s
-      end-stage e s g t = (record { from = f; starting = with-all; turns = suc k; atMost = omega arith; completed = omega arith; underWay = omega arith; within = g .within; tight = t }, g .kept)
+      pub end-stage : (e : End) (s : State) → Stage f k (u .point) s → Tight f (suc k) r e → underWay e ≡ 1 → E e s
+      end-stage e s g t y = record {
+        end = record { from = f; starting = with-all; turns = suc k; atMost = omega arith; part = theTurns; counted = omega (arith, g .completed); completed = omega (arith, g .completed); within = g .within; tight = t };
+        inPart = refl;
+        kept = g .kept;
+      }
 
-      pub end-answer : {A : Type 0} (Q : A → State → Type 0) (why : Found) → FromPoint f why → (i : ℕ) (s : State) → Stage f k (u .point) s → Meets Q E (answer w why i s)
+      pub end-answer : {A : Type 0} (Q : A → State → Type 0) (why : Found) → FromPoint f why → underWayFound why ≡ 1 → (i : ℕ) (s : State) → Stage f k (u .point) s → Meets Q E (answer w why i s)
       unfolding answer answerOf
-      end-answer Q why y i s g = meets-look E Q _ s (meets-stop E Q _ s (end-stage _ s g y))
+      end-answer Q why y o i s g = meets-look E Q _ s (meets-stop E Q _ s (end-stage _ s g y o))
 
       -- ---- delete
 
-      meets-delete : (i : ℕ) (s : State) → Turned f k (u .point) i s → Meets (λ _ t. Deleted f k (u .point) i (s .faces .count) t) E (delete i s)
+      pub meets-delete : (i : ℕ) (s : State) → Turned f k (u .point) i s → Meets (λ _ t. Deleted f k (u .point) i (s .faces .count) t) E (delete i s)
       unfolding delete _>>=_ look put
       meets-delete i s h =
           let d = live-delete (s .faces .count) (s .faces .dead) i (h .faceIn) (h .faceLive) in
@@ -170,9 +177,10 @@ module _ (J : State → Type 0) where
             pointIn = g .pointIn;
             kept = j;
           })
-          (omega (arith, h .lessLive)))
+          (omega (arith, h .lessLive))
+          refl)
 
-      meets-silhouette : (i n : ℕ) (s : State) → Deleted f k (u .point) i n s → Meets (λ _ t. Lined f k (u .point) n t) E (silhouette w r (u .point) i s)
+      pub meets-silhouette : (i n : ℕ) (s : State) → Deleted f k (u .point) i n s → Meets (λ _ t. Lined f k (u .point) n t) E (silhouette w r (u .point) i s)
       unfolding silhouette
       meets-silhouette i n s h =
           let N = s .faces .count in
@@ -195,10 +203,10 @@ module _ (J : State → Type 0) where
 
         -- the stores with one more face, of n
         module _ (left : ℕ) (s : State) (h : Growing f k (u .point) first all (suc left) s) (g c a b : ℕ) (m : Made) (gin : g < first) (ain : a < s .verts .count) (bin : b < s .verts .count) where
-          abbrev linked : State
+          abbrev pub linked : State
           linked = linkedTo s g ((c + 1) % 3) (s .faces .count)
 
-          abbrev more : State
+          abbrev pub more : State
           more = withFaces linked (oneMore (linked .faces) (threeN a b (u .point)) (threeN g (s .faces .count + 1) (s .faces .count - 1)) m)
 
           stage-linked : Stage f k (u .point) linked
@@ -210,7 +218,7 @@ module _ (J : State → Type 0) where
           nearly-linked : AllIn (s .faces .count + 1) (s .faces .count * 3) (linked .faces .adj)
           nearly-linked = all-set (s .faces .adj) (g * 3 + (c + 1) % 3) (s .faces .count) _ _ (omega arith) (h .nearly)
 
-          grown : s .faces .count < r .faces → Growing f k (u .point) first all left more × (more .queue .count < more .faces .count)
+          pub grown : s .faces .count < r .faces → Growing f k (u .point) first all left more × (more .queue .count < more .faces .count)
           unfolding oneMore
           grown room =
               let n = s .faces .count in
@@ -235,6 +243,7 @@ module _ (J : State → Type 0) where
                   queueFew = omega (arith, h .queueFew);
                   edgesIn = h .edgesIn;
                   cornersIn = h .cornersIn;
+                  allIn = h .allIn;
                   roomLive = omega (arith, h .roomLive);
                   roomMade = omega (arith, h .roomMade);
                 },
@@ -243,7 +252,7 @@ module _ (J : State → Type 0) where
 
         -- ---- it is queued
 
-        queued : (left : ℕ) (s : State) (e : Entry) → e .face < s .faces .count → Growing f k (u .point) first all left s → s .queue .count < s .faces .count → s .queue .count < r .heap
+        pub queued : (left : ℕ) (s : State) (e : Entry) → e .face < s .faces .count → Growing f k (u .point) first all left s → s .queue .count < s .faces .count → s .queue .count < r .heap
             → Growing f k (u .point) first all left (withQueue s (pushed (s .queue) e))
         queued left s e hi h q room =
             let x = h .stage in
@@ -266,6 +275,7 @@ module _ (J : State → Type 0) where
               queueFew = omega (arith, gp .counts);
               edgesIn = h .edgesIn;
               cornersIn = h .cornersIn;
+              allIn = h .allIn;
               roomLive = h .roomLive;
               roomMade = h .roomMade;
             }
@@ -275,10 +285,10 @@ module _ (J : State → Type 0) where
         unfolding queueNew
         meets-queueNew left s i hi h q =
             meets-look E _ _ s (meets-branch E _ _ _ _ s
-            (λ _. end-answer _ newFaceNearer tt (u .face) s (h .stage))
+            (λ _. end-answer _ newFaceNearer tt refl (u .face) s (h .stage))
             (λ _. meets-queue E _ r keyLater (u .tol) i _ s
-            (end-stage _ s (h .stage) tt)
-            (λ full. end-stage _ s (h .stage) (omega (arith, h .roomMade)))
+            (end-stage _ s (h .stage) tt refl)
+            (λ full. end-stage _ s (h .stage) (omega (arith, h .roomMade)) refl)
             (λ room. queued left s _ hi h q room)))
 
         abbrev Joined : ℕ → ℕ → Nil → State → Type 0
@@ -289,7 +299,7 @@ module _ (J : State → Type 0) where
 
         -- ---- the new face of an edge
 
-        meets-growAt : (left : ℕ) (s : State) (g c : ℕ) → g < first → c < 3 → Growing f k (u .point) first all (suc left) s
+        pub meets-growAt : (left : ℕ) (s : State) (g c : ℕ) → g < first → c < 3 → Growing f k (u .point) first all (suc left) s
             → Meets (λ _ t. Growing f k (u .point) first all left t) E (growAt w r u g c s)
         unfolding growAt oneMore
         meets-growAt left s g c hg hc h =
@@ -305,41 +315,50 @@ module _ (J : State → Type 0) where
             (λ _ t e. subst (λ (x : State). Meets (λ _ t. Growing f k (u .point) first all left t) E (_>>_ (pushFace r (threeN a b (u .point)) (threeN g (n + 1) (n - 1)) m) (doIf (m .holds) (queueNew w r u n)) x)) e
             (meets-then E (Joined left n) _ _ _ _
             (meets-face E (Joined left n) r (threeN a b (u .point)) (threeN g (n + 1) (n - 1)) m _
-            (λ full. end-stage _ _ (stage-linked left s h g c a b m hg ain bin) (omega (arith, h .roomMade)))
+            (λ full. end-stage _ _ (stage-linked left s h g c a b m hg ain bin) (omega (arith, h .roomMade)) refl)
             (λ room. let gr = grown left s h g c a b m hg ain bin room in (gr .0, gr .1, more-than n)))
             (λ _ t e. meets-doIf E _ (m .holds) (queueNew w r u n) t
             (λ _. meets-queueNew left t n (e .2) (e .0) (e .1))
             (λ _. e .0)))))
 
-        meets-grow : (left : ℕ) (s : State) (i : ℕ) → i < all → Growing f k (u .point) first all (suc left) s
+        -- an edge is done with
+        pub one-fewer : (left : ℕ) (s : State) → Growing f k (u .point) first all (suc left) s → Growing f k (u .point) first all left s
+        one-fewer left s h = record {
+          stage = h .stage;
+          some = h .some;
+          firstIn = h .firstIn;
+          ptsIn = h .ptsIn;
+          nearly = h .nearly;
+          butLast = h .butLast;
+          queueIn = h .queueIn;
+          queueFew = h .queueFew;
+          edgesIn = h .edgesIn;
+          cornersIn = h .cornersIn;
+          allIn = h .allIn;
+          roomLive = omega (arith, h .roomLive);
+          roomMade = omega (arith, h .roomMade);
+        }
+
+        pub meets-grow : (left : ℕ) (s : State) (i : ℕ) → i < all → Growing f k (u .point) first all (suc left) s
             → Meets (λ _ t. Growing f k (u .point) first all left t) E (grow w r u i s)
         unfolding grow
         meets-grow left s i hi h =
             meets-look E _ _ s (meets-doIf E _ _ _ s
             (λ _. meets-growAt left s _ _ (h .edgesIn .below i hi) (h .cornersIn .below i hi) h)
-            (λ _. record {
-              stage = h .stage;
-              some = h .some;
-              firstIn = h .firstIn;
-              ptsIn = h .ptsIn;
-              nearly = h .nearly;
-              butLast = h .butLast;
-              queueIn = h .queueIn;
-              queueFew = h .queueFew;
-              edgesIn = h .edgesIn;
-              cornersIn = h .cornersIn;
-              roomLive = omega (arith, h .roomLive);
-              roomMade = omega (arith, h .roomMade);
-            }))
+            (λ _. one-fewer left s h))
 
-        meets-growAll : (left : ℕ) (s : State) (i : ℕ) → i + left ≡ all → Growing f k (u .point) first all left s
-            → Meets (λ _ t. Growing f k (u .point) first all 0 t) E (growAll w r u left i s)
+        -- the new faces of n edges, of all that are left
+        pub meets-growAll : (n left all-left : ℕ) (s : State) (i : ℕ) → i + all-left ≡ all → all-left ≡ n + left → Growing f k (u .point) first all all-left s
+            → Meets (λ _ t. Growing f k (u .point) first all left t) E (growAll w r u n i s)
         unfolding growAll
-        meets-growAll zero s i e h = meets-ok E _ s h
-        meets-growAll (suc left) s i e h =
-            meets-then E (λ _ t. Growing f k (u .point) first all left t) _ _ _ s
-            (meets-grow left s i (omega arith) h)
-            (λ _ t h'. meets-growAll left t (i + 1) (omega arith) h')
+        meets-growAll zero left all-left s i e m h =
+            let q : all-left ≡ left = omega arith in
+            meets-ok E _ s (rw q at h)
+        meets-growAll (suc n) left all-left s i e m h =
+            let q : all-left ≡ suc (n + left) = omega arith in
+            meets-then E (λ _ t. Growing f k (u .point) first all (n + left) t) _ _ _ s
+            (meets-grow (n + left) s i (omega arith) (rw q at h))
+            (λ _ t h'. meets-growAll n left (n + left) t (i + 1) (omega arith) refl h')
 
         -- ---- the ring of new faces is closed
 
@@ -357,7 +376,7 @@ module _ (J : State → Type 0) where
                 rw (getD-set-other (set (s .faces .adj) (first * 3 + 2) (s .faces .count - 1)) ((s .faces .count - 1) * 3 + 1) i first 0 e)
                 (in-set (s .faces .adj) (first * 3 + 2) (s .faces .count - 1) i (s .faces .count) (omega arith) (h .butLast i hi e))
 
-        meets-close : (s : State) → first < s .faces .count → Growing f k (u .point) first all 0 s
+        pub meets-close : (s : State) → first < s .faces .count → Growing f k (u .point) first all 0 s
             → Meets (λ _ t. Grown f k t × (first ≤ t .faces .count)) E (_>>_ (link first 2 (s .faces .count - 1)) (_>>_ (link (s .faces .count - 1) 1 first) clearEdges) s)
         unfolding link clearEdges _>>=_ _>>_ look put
         meets-close s l h =
@@ -376,7 +395,7 @@ module _ (J : State → Type 0) where
 
       -- ---- the expansion
 
-      growing : (n : ℕ) (s : State) → Lined f k (u .point) n s → Growing f k (u .point) (s .faces .count) (s .edged .count) (s .edged .count) s
+      pub growing : (n : ℕ) (s : State) → Lined f k (u .point) n s → Growing f k (u .point) (s .faces .count) (s .edged .count) (s .edged .count) s
       growing n s h =
           let x = h .sound in
           record {
@@ -390,11 +409,12 @@ module _ (J : State → Type 0) where
             queueFew = x .queueFew;
             edgesIn = h .edgesIn;
             cornersIn = h .cornersIn;
+            allIn = omega arith;
             roomLive = h .roomLive;
             roomMade = h .roomMade;
           }
 
-      newer : (n first : ℕ) → first ≤ n → (n ≡ first → ⊥) → first < n
+      pub newer : (n first : ℕ) → first ≤ n → (n ≡ first → ⊥) → first < n
       newer n first l e = omega arith
 
       pub meets-expand : (s : State) → Turned f k (u .point) (u .face) s → Meets (λ _ t. Grown f k t × (s .faces .count ≤ t .faces .count)) E (expand w r u s)
@@ -404,11 +424,11 @@ module _ (J : State → Type 0) where
           meets-then E (λ _ t. Lined f k (u .point) (s .faces .count) t) _ _ _ s1 (meets-silhouette (u .face) (s .faces .count) s1 h1) λ _ s2 h2.
           meets-look E _ _ s2
           (meets-then E (λ _ t. Growing f k (u .point) (s2 .faces .count) (s2 .edged .count) (s2 .edged .count) t) _ _ _ s2
-          (meets-stopIf E _ _ _ s2 (λ _. end-stage _ s2 (h2 .stage) tt) (λ _. growing (s .faces .count) s2 h2)) λ _ s3 h3.
+          (meets-stopIf E _ _ _ s2 (λ _. end-stage _ s2 (h2 .stage) tt refl) (λ _. growing (s .faces .count) s2 h2)) λ _ s3 h3.
           meets-then E (λ _ t. Growing f k (u .point) (s2 .faces .count) (s2 .edged .count) 0 t) _ _ _ s3
-          (meets-growAll (s2 .faces .count) (s2 .edged .count) (s2 .edged .count) s3 0 (omega arith) h3) λ _ s4 h4.
+          (meets-growAll (s2 .faces .count) (s2 .edged .count) (s2 .edged .count) 0 (s2 .edged .count) s3 0 (omega arith) (omega arith) h3) λ _ s4 h4.
           meets-look E _ _ s4
           (meets-then E (λ _ t. (s4 ≡ t) × (s2 .faces .count < s4 .faces .count)) _ _ _ s4
-          (meets-stopIf E _ _ _ s4 (λ _. end-stage _ s4 (h4 .stage) tt) (λ e. (refl, newer (s4 .faces .count) (s2 .faces .count) (h4 .firstIn) (eqb-false _ _ e)))) λ _ s5 h5.
+          (meets-stopIf E _ _ _ s4 (λ _. end-stage _ s4 (h4 .stage) tt refl) (λ e. (refl, newer (s4 .faces .count) (s2 .faces .count) (h4 .firstIn) (eqb-false _ _ e)))) λ _ s5 h5.
           subst (λ (x : State). Meets (λ _ t. Grown f k t × (s .faces .count ≤ t .faces .count)) E (_>>_ (link (s2 .faces .count) 2 (s4 .faces .count - 1)) (_>>_ (link (s4 .faces .count - 1) 1 (s2 .faces .count)) clearEdges) x)) (h5 .0)
           (meets-map E (λ _ t c. (c .0, omega (arith, h2 .same, c .1))) (meets-close (s2 .faces .count) (s2 .edged .count) s4 (h5 .1) h4))))

@@ -162,7 +162,7 @@ module _ (s0 : State) where
         ofHeapKeys = h .ofHeapKeys;
       }
 
-  same-walked : (r : Rooms) (w : World) (s : State) (p i : ℕ) → SameLength s0 s → SameLength s0 (withPass w r s p i)
+  pub same-walked : (r : Rooms) (w : World) (s : State) (p i : ℕ) → SameLength s0 s → SameLength s0 (withPass w r s p i)
   same-walked r w s p i h =
       let a = facing (s .faces .pts) (s .faces .adj) i 0 in
       let b = facing (s .faces .pts) (s .faces .adj) i 1 in
@@ -186,7 +186,7 @@ module _ (s0 : State) where
   unfolding clearEdges _>>=_ look put
   same-clear s h = record { ofVertices = h .ofVertices; ofPts = h .ofPts; ofAdj = h .ofAdj; ofNums = h .ofNums; ofDead = h .ofDead; ofEdgeFaces = length-blank _ (s .edged .faces) ∙ h .ofEdgeFaces; ofEdgeCorners = length-blank _ (s .edged .corners) ∙ h .ofEdgeCorners; ofHeapFaces = h .ofHeapFaces; ofHeapKeys = h .ofHeapKeys }
 
-  same-moves : (r : Rooms) → Keeps r (SameLength s0)
+  pub same-moves : (r : Rooms) → Keeps r (SameLength s0)
   same-moves r = record {
     onVertex = λ s v _ h. same-verts s _ _ h (length-vertex (s .verts .cells) (s .verts .count) v);
     onExchange = λ s _ h. same-verts s _ _ h (same-exchanged (s .verts .cells));

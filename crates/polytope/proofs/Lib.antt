@@ -1,4 +1,4 @@
--- What is proved of the definitions: the walk, the heap, the run's bounds, and the store rule.
+-- What is proved of the definitions: the walk, the heap, the run's bounds, the store rule, and demand 3 sentence by sentence (Demand3).
 pub mod Basics
 pub mod Places
 pub mod Lists
@@ -9,9 +9,20 @@ pub mod Steps
 pub mod Moves
 pub mod Growth
 pub mod Turns
+pub mod Stages
 pub mod Start
 pub mod Rule
 pub mod Lengths
 pub mod Ways
 pub mod Only
 pub mod Panics
+pub mod Alike
+pub mod Along
+pub mod Twins
+pub mod TwinTurns
+pub mod TwinRuns
+pub mod Agreement
+pub mod Passes
+pub mod Counted
+pub mod Bounded
+pub mod Demand3

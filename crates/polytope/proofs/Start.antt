@@ -10,8 +10,10 @@ use borrow.Author.Tests.{eqb-true, eqb-false, leb-true, not-false}
 use Rattle.shape.specs.declared.vertex.Vertex.{Vertex}
 use Rattle.polytope.specs.declared.types.Made.{Made}
 use Rattle.heap.specs.Heap.{Heap, Entry, pushed}
-use Rattle.polytope.specs.Polytope.{World, State, Rooms, VoronoiSimplex, Best, End, noRoom, Store, theVerts, theFaces, theEdges, theHeap, keyAtStart, Out, onward, ended, Nil, withFaces, withQueue, oneMore, liveTo, live, threeN, pushPoints, firstFar, second, bootstrap, queueStart, startFour, fourFaces, queueFour, third, twoFaces, startTwo, startVertices, startFaces, expansions, turns, begin, epa, fresh, roomsOf, runEpa, vertexAt}
-use Rattle.polytope.specs.Bounds.{AllIn, Good, Between, started, expanded, bound, Within, Tight, Starting, without, with-all, Ended, Ends, facesAtStart, Ample}
+use Rattle.polytope.specs.Polytope.{World, State, Rooms, VoronoiSimplex, End, noRoom, Store, theVerts, theFaces, theEdges, theHeap, keyAtStart, Out, onward, ended, Nil, withFaces, withQueue, oneMore, liveTo, live, threeN, pushPoints, firstFar, second, bootstrap, queueStart, startFour, fourFaces, queueFour, third, twoFaces, startTwo, startVertices, startFaces, expansions, turns, begin, epa, fresh, roomsOf, runEpa, vertexAt}
+use Rattle.polytope.specs.Bounds.{AllIn, Good, bound, Within, Tight, Starting, without, with-all, Part, theStart, theTurns, Ended, Ends, facesAtStart, Ample, roomFor, suffices}
+use Rattle.polytope.specs.Demand3.{Carried, opened, oneMoreTurn, runTo, rest}
+use Rattle.polytope.proofs.Stages.{run-through}
 use Rattle.polytope.proofs.Basics.{all-as, all-three, all-none, live-push}
 use Rattle.polytope.proofs.Sizes.{bound-zero, bound-most}
 use Rattle.polytope.proofs.Heaps.{good-pushed}
@@ -22,7 +24,7 @@ use Rattle.heap.specs.Heap as Heap
 use Rattle.number.specs.Constants.{largest}
 use Rattle.vector.specs.Vector.{zeroF}
 use Rattle.simplex.specs.Simplex.{isSimplex}
-use Rattle.polytope.proofs.Steps.{Meets, meets-bind, meets-then, meets-look, meets-put, meets-pure, meets-ok, meets-stop, meets-stopIf, meets-doIf, meets-branch, meets-face, meets-queue, meets-vertex, meets-map}
+use Rattle.polytope.proofs.Steps.{Meets, meets-ends, meets-bind, meets-then, meets-look, meets-put, meets-pure, meets-ok, meets-stop, meets-stopIf, meets-doIf, meets-branch, meets-face, meets-queue, meets-vertex, meets-map}
 
 -- the stores with no entries
 pub record Empty (s : State) : Type 0 where
@@ -33,10 +35,10 @@ pub record Empty (s : State) : Type 0 where
   pub noDone : s .done ≡ 0
   pub noMost : s .most ≡ 0
 
-starts : (b : Bool) → b ≡ true → _≡_ {A = ℕ} (cond b 4 2) 4
+pub starts : (b : Bool) → b ≡ true → _≡_ {A = ℕ} (cond b 4 2) 4
 starts b e = rw e
 
-starts-two : (b : Bool) → b ≡ false → _≡_ {A = ℕ} (cond b 4 2) 2
+pub starts-two : (b : Bool) → b ≡ false → _≡_ {A = ℕ} (cond b 4 2) 2
 starts-two b e = rw e
 
 -- a simplex has dimension 3 at most
@@ -52,22 +54,26 @@ low-dimension x e = leb-true (x .dim) 3 (and-left _ _ (and-left _ _ (and-left _ 
 
 module _ (J : State → Type 0) (r : Rooms) (K : Keeps r J) where
   -- before the first expansion: v vertices, n of f faces, and at most q entries in the heap
-  record Begun (f v n q : ℕ) (s : State) : Type 0 where
-    vertsAre : s .verts .count ≡ v
-    madeAre : s .faces .count ≡ n
-    adjIn : AllIn f (n * 3) (s .faces .adj)
-    ptsIn : AllIn v (n * 3) (s .faces .pts)
-    liveFew : liveTo n (s .faces .dead) ≤ n
-    queueIn : Good f (s .queue .count) (s .queue)
-    queueFew : s .queue .count ≤ q
-    noneDone : s .done ≡ 0
-    noneMost : s .most ≡ 0
-    noEdges : s .edged .count ≡ 0
-    kept : J s
+  pub record Begun (f v n q : ℕ) (s : State) : Type 0 where
+    pub vertsAre : s .verts .count ≡ v
+    pub madeAre : s .faces .count ≡ n
+    pub adjIn : AllIn f (n * 3) (s .faces .adj)
+    pub ptsIn : AllIn v (n * 3) (s .faces .pts)
+    pub liveFew : liveTo n (s .faces .dead) ≤ n
+    pub queueIn : Good f (s .queue .count) (s .queue)
+    pub queueFew : s .queue .count ≤ q
+    pub noneDone : s .done ≡ 0
+    pub noneMost : s .most ≡ 0
+    pub noEdges : s .edged .count ≡ 0
+    pub kept : J s
+
+  -- the f starting faces are made
+  abbrev Started : ℕ → State → Type 0
+  Started f s = Ready J f 0 s × (s .faces .count ≡ f)
 
   module _ (f : ℕ) where
     abbrev E : End → State → Type 0
-    E = Ending J f r
+    E = Ending J theStart f r
 
     begun-within : (v n q : ℕ) (s : State) → v ≤ 4 → n ≤ f → q ≤ f → Begun f v n q s → Within f 0 s
     begun-within v n q s hv hn hq h =
@@ -82,26 +88,33 @@ module _ (J : State → Type 0) (r : Rooms) (K : Keeps r J) where
 
     end-begun : (v n q : ℕ) (e : End) (s : State) → v ≤ 4 → n ≤ f → q ≤ f → Begun f v n q s → Tight f 0 r e → E e s
     end-begun v n q e s hv hn hq h t =
-        (record { from = f; starting = with-all; turns = 0; atMost = omega arith; completed = omega (arith, h .noneDone); underWay = omega arith; within = begun-within v n q s hv hn hq h; tight = t }, h .kept)
+        record {
+          end = record { from = f; starting = with-all; turns = 0; atMost = omega arith; part = theStart; counted = refl; completed = omega (arith, h .noneDone); within = begun-within v n q s hv hn hq h; tight = t };
+          inPart = refl;
+          kept = h .kept;
+        }
 
-    begun-ready : (v q : ℕ) (s : State) → 0 < f → v ≤ 4 → q ≤ f → Begun f v f q s → Ready J f 0 s
-    begun-ready v q s hf hv hq h = record {
-      sound = record {
-        some = omega (arith, h .madeAre);
-        adjIn = rw (h .madeAre) (h .adjIn);
-        ptsIn = rw (h .madeAre, h .vertsAre) (h .ptsIn);
-        queueIn = rw (h .madeAre) (h .queueIn);
-        queueFew = omega (arith, h .queueFew, h .madeAre);
-      };
-      within = begun-within v f q s hv (omega arith) hq h;
-      completed = h .noneDone;
-      noEdges = h .noEdges;
-      kept = h .kept;
-    }
+    pub begun-ready : (v q : ℕ) (s : State) → 0 < f → v ≤ 4 → q ≤ f → Begun f v f q s → Started f s
+    begun-ready v q s hf hv hq h = (
+      record {
+        sound = record {
+          some = omega (arith, h .madeAre);
+          adjIn = rw (h .madeAre) (h .adjIn);
+          ptsIn = rw (h .madeAre, h .vertsAre) (h .ptsIn);
+          queueIn = rw (h .madeAre) (h .queueIn);
+          queueFew = omega (arith, h .queueFew, h .madeAre);
+        };
+        within = begun-within v f q s hv (omega arith) hq h;
+        completed = h .noneDone;
+        noEdges = h .noEdges;
+        kept = h .kept;
+      },
+      h .madeAre,
+    )
 
     -- ---- vertices
 
-    begun-vertex : (v : ℕ) (s : State) (p : Vertex) → s .verts .count < r .vertices → Begun f v 0 0 s → Begun f (v + 1) 0 0 (withVertex s p)
+    pub begun-vertex : (v : ℕ) (s : State) (p : Vertex) → s .verts .count < r .vertices → Begun f v 0 0 s → Begun f (v + 1) 0 0 (withVertex s p)
     begun-vertex v s p room h = record {
       vertsAre = omega (arith, h .vertsAre);
       madeAre = h .madeAre;
@@ -116,44 +129,46 @@ module _ (J : State → Type 0) (r : Rooms) (K : Keeps r J) where
       kept = K .onVertex s p room (h .kept);
     }
 
-    meets-oneVertex : (v : ℕ) (x : Vertex) (s : State) → v < 4 → Begun f v 0 0 s → Meets (λ _ t. Begun f (v + 1) 0 0 t) E (Rattle.polytope.specs.Polytope.pushVertex r x s)
+    pub meets-oneVertex : (v : ℕ) (x : Vertex) (s : State) → v < 4 → Begun f v 0 0 s → Meets (λ _ t. Begun f (v + 1) 0 0 t) E (Rattle.polytope.specs.Polytope.pushVertex r x s)
     meets-oneVertex v x s l h =
         meets-vertex E _ r x s
         (λ full. end-begun v 0 0 _ s (omega arith) (omega arith) (omega arith) h (omega (arith, h .vertsAre)))
         (λ room. begun-vertex v s _ room h)
 
-    meets-points : (x : VoronoiSimplex) (n i v : ℕ) (s : State) → v + n ≤ 4 → Begun f v 0 0 s → Meets (λ _ t. Begun f (v + n) 0 0 t) E (pushPoints r x n i s)
+    pub meets-points : (x : VoronoiSimplex) (n i v : ℕ) (s : State) → v + n ≤ 4 → Begun f v 0 0 s → Meets (λ _ t. Begun f (v + n) 0 0 t) E (pushPoints r x n i s)
     unfolding pushPoints
     meets-points x zero i v s l h = meets-ok E _ s (rw native.Mathlib.Nat.add-zero h)
     meets-points x (suc n) i v s l h =
         let e : v + suc n ≡ v + 1 + n = omega arith in
         rw e (meets-then E (λ _ t. Begun f (v + 1) 0 0 t) _ _ _ s (meets-oneVertex v _ s (omega arith) h) λ _ t h1. meets-points x n (i + 1) (v + 1) t (omega arith) h1)
 
-    meets-second : (x : Vertex) (o : Option Vertex) (s : State) → Begun f 1 0 0 s → Meets (λ _ t. Begun f 2 0 0 t) E (second r x o s)
+    pub meets-second : (x : Vertex) (o : Option Vertex) (s : State) → Begun f 1 0 0 s → Meets (λ _ t. Begun f 2 0 0 t) E (second r x o s)
     meets-second x none s h =
         let z = bound-zero 0 in
         let l : live s ≤ 0 = rw (h .madeAre) (h .liveFew) in
-        meets-stop E _ _ s (
-          record {
+        meets-stop E _ _ s (record {
+          end = record {
             from = 0;
             starting = without;
             turns = 0;
             atMost = omega arith;
+            part = theStart;
+            counted = refl;
             completed = omega (arith, h .noneDone);
-            underWay = omega arith;
             within = record { fewVerts = omega (arith, h .vertsAre); fewLive = l; fewMade = omega (arith, h .madeAre); fewEdges = omega (arith, h .noneMost); fewQueued = omega (arith, h .queueFew) };
             tight = refl;
-          },
-          h .kept,
-        )
+          };
+          inPart = refl;
+          kept = h .kept;
+        })
     meets-second x (some p) s h =
         meets-oneVertex 1 p s (omega arith) h
 
-    meets-bootstrap : (w : World) (s : State) → Begun f 1 0 0 s → Meets (λ _ t. Begun f 2 0 0 t) E (bootstrap w r s)
+    pub meets-bootstrap : (w : World) (s : State) → Begun f 1 0 0 s → Meets (λ _ t. Begun f 2 0 0 t) E (bootstrap w r s)
     unfolding bootstrap
     meets-bootstrap w s h = meets-look E _ _ s (meets-second (vertexAt (s .verts .cells) 0) (firstFar w (vertexAt (s .verts .cells) 0 .point) 6 0) s h)
 
-    meets-third : (w : World) (s : State) → Begun f 2 0 0 s → Meets (λ _ t. Begun f 3 0 0 t) E (third w r s)
+    pub meets-third : (w : World) (s : State) → Begun f 2 0 0 s → Meets (λ _ t. Begun f 3 0 0 t) E (third w r s)
     unfolding third
     meets-third w s h =
         meets-look E _ _ s
@@ -164,7 +179,7 @@ module _ (J : State → Type 0) (r : Rooms) (K : Keeps r J) where
     -- ---- faces and their keys
 
     module _ (v : ℕ) (hv : v ≤ 4) where
-      begun-face : (n a b c x y z : ℕ) (m : Made) (s : State) → a < v → b < v → c < v → x < f → y < f → z < f → s .faces .count < r .faces → Begun f v n 0 s
+      pub begun-face : (n a b c x y z : ℕ) (m : Made) (s : State) → a < v → b < v → c < v → x < f → y < f → z < f → s .faces .count < r .faces → Begun f v n 0 s
           → Begun f v (n + 1) 0 (withFaces s (oneMore (s .faces) (threeN a b c) (threeN x y z) m))
       unfolding oneMore
       begun-face n a b c x y z m s ha hb hc hx hy hz room h =
@@ -183,14 +198,14 @@ module _ (J : State → Type 0) (r : Rooms) (K : Keeps r J) where
             kept = K .onFace s a b c x y z m room (h .kept);
           }
 
-      meets-oneFace : (n a b c x y z : ℕ) (m : Made) (s : State) → n < f → a < v → b < v → c < v → x < f → y < f → z < f → Begun f v n 0 s
+      pub meets-oneFace : (n a b c x y z : ℕ) (m : Made) (s : State) → n < f → a < v → b < v → c < v → x < f → y < f → z < f → Begun f v n 0 s
           → Meets (λ _ t. Begun f v (n + 1) 0 t) E (Rattle.polytope.specs.Polytope.pushFace r (threeN a b c) (threeN x y z) m s)
       meets-oneFace n a b c x y z m s hn ha hb hc hx hy hz h =
           meets-face E _ r _ _ m s
           (λ full. end-begun v n 0 _ s hv (omega arith) (omega arith) h (omega (arith, h .madeAre, bound-zero f)))
           (λ room. begun-face n a b c x y z m s ha hb hc hx hy hz room h)
 
-      begun-queue : (q : ℕ) (s : State) (e : Entry) → e .face < f → q < f → s .queue .count < r .heap → Begun f v f q s → Begun f v f (q + 1) (withQueue s (pushed (s .queue) e))
+      pub begun-queue : (q : ℕ) (s : State) (e : Entry) → e .face < f → q < f → s .queue .count < r .heap → Begun f v f q s → Begun f v f (q + 1) (withQueue s (pushed (s .queue) e))
       begun-queue q s e l lq room h =
           let g = good-pushed f (s .queue .count) (s .queue) e l (h .queueIn) in
           record {
@@ -207,7 +222,7 @@ module _ (J : State → Type 0) (r : Rooms) (K : Keeps r J) where
             kept = K .onQueue s e room (omega (arith, h .queueFew, h .madeAre)) (h .kept);
           }
 
-      meets-oneKey : (q : ℕ) (tol key : Float) (i : ℕ) (s : State) → q < f → i < f → Begun f v f q s → Meets (λ _ t. Begun f v f (q + 1) t) E (Rattle.polytope.specs.Polytope.queueFace r keyAtStart tol i key s)
+      pub meets-oneKey : (q : ℕ) (tol key : Float) (i : ℕ) (s : State) → q < f → i < f → Begun f v f q s → Meets (λ _ t. Begun f v f (q + 1) t) E (Rattle.polytope.specs.Polytope.queueFace r keyAtStart tol i key s)
       meets-oneKey q tol key i s lq li h =
           meets-queue E _ r keyAtStart tol i key s
           (end-begun v f q _ s hv (omega arith) (omega arith) h tt)
@@ -217,16 +232,16 @@ module _ (J : State → Type 0) (r : Rooms) (K : Keeps r J) where
       begun-more : (n q : ℕ) (s : State) → Begun f v n q s → Begun f v n (q + 1) s
       begun-more n q s h = record { vertsAre = h .vertsAre; madeAre = h .madeAre; adjIn = h .adjIn; ptsIn = h .ptsIn; liveFew = h .liveFew; queueIn = h .queueIn; queueFew = omega (arith, h .queueFew); noneDone = h .noneDone; noneMost = h .noneMost; noEdges = h .noEdges; kept = h .kept }
 
-      meets-queueStart : (w : World) (q : ℕ) (tol : Float) (i : ℕ) (b : Bool) (s : State) → q < f → i < f → Begun f v f q s → Meets (λ _ t. Begun f v f (q + 1) t) E (queueStart w r tol i b s)
+      pub meets-queueStart : (w : World) (q : ℕ) (tol : Float) (i : ℕ) (b : Bool) (s : State) → q < f → i < f → Begun f v f q s → Meets (λ _ t. Begun f v f (q + 1) t) E (queueStart w r tol i b s)
       unfolding queueStart
       meets-queueStart w q tol i b s lq li h =
           meets-doIf E _ b _ s (λ _. meets-look E _ _ s (meets-oneKey q tol _ i s lq li h)) (λ _. begun-more f q s h)
 
   -- two faces
-  meets-two : (w : World) (tol : Float) (v : ℕ) (s : State) → 2 ≤ v → v ≤ 3 → Begun 2 v 0 0 s → Meets (λ _ t. Ready J 2 0 t) (Ending J 2 r) (startTwo w r tol s)
+  pub meets-two : (w : World) (tol : Float) (v : ℕ) (s : State) → 2 ≤ v → v ≤ 3 → Begun 2 v 0 0 s → Meets (λ _ t. Started 2 t) (Ending J theStart 2 r) (startTwo w r tol s)
   unfolding startTwo twoFaces
   meets-two w tol v s l2 l3 h =
-      let E = Ending J 2 r in
+      let E = Ending J theStart 2 r in
       meets-look E _ _ s
       (meets-then E (λ _ t. Begun 2 3 0 0 t) _ _ _ s
       (meets-doIf E _ _ _ s
@@ -241,10 +256,10 @@ module _ (J : State → Type 0) (r : Rooms) (K : Keeps r J) where
       meets-map E (λ _ t b. begun-ready 2 3 2 t (omega arith) (omega arith) (omega arith) b) (meets-oneKey 2 3 (omega arith) 1 tol _ 1 s4 (omega arith) (omega arith) h4)))
 
   -- four faces
-  meets-fourFaces : (m1 m2 m3 m4 : Made) (s : State) → Begun 4 4 0 0 s → Meets (λ _ t. Begun 4 4 4 0 t) (Ending J 4 r) (fourFaces r m1 m2 m3 m4 s)
+  pub meets-fourFaces : (m1 m2 m3 m4 : Made) (s : State) → Begun 4 4 0 0 s → Meets (λ _ t. Begun 4 4 4 0 t) (Ending J theStart 4 r) (fourFaces r m1 m2 m3 m4 s)
   unfolding fourFaces
   meets-fourFaces m1 m2 m3 m4 s0 h0 =
-      let E = Ending J 4 r in
+      let E = Ending J theStart 4 r in
       let l0 : 0 < 4 = omega arith in
       let l1 : 1 < 4 = omega arith in
       let l2 : 2 < 4 = omega arith in
@@ -254,10 +269,10 @@ module _ (J : State → Type 0) (r : Rooms) (K : Keeps r J) where
       meets-then E (λ _ t. Begun 4 4 3 0 t) _ _ _ s2 (meets-oneFace 4 4 (omega arith) 2 0 2 3 0 1 3 _ s2 l2 l0 l2 l3 l0 l1 l3 h2) λ _ s3 h3.
       meets-oneFace 4 4 (omega arith) 3 0 3 1 2 1 0 _ s3 l3 l0 l3 l1 l2 l1 l0 h3
 
-  meets-queueFour : (w : World) (tol : Float) (a b c d : Bool) (s : State) → Begun 4 4 4 0 s → Meets (λ _ t. Ready J 4 0 t) (Ending J 4 r) (queueFour w r tol a b c d s)
+  pub meets-queueFour : (w : World) (tol : Float) (a b c d : Bool) (s : State) → Begun 4 4 4 0 s → Meets (λ _ t. Started 4 t) (Ending J theStart 4 r) (queueFour w r tol a b c d s)
   unfolding queueFour
   meets-queueFour w tol a b c d s4 h4 =
-      let E = Ending J 4 r in
+      let E = Ending J theStart 4 r in
       meets-then E (λ _ t. Begun 4 4 4 1 t) _ _ _ s4 (meets-queueStart 4 4 (omega arith) w 0 tol 0 _ s4 (omega arith) (omega arith) h4) λ _ s5 h5.
       meets-then E (λ _ t. Begun 4 4 4 2 t) _ _ _ s5 (meets-queueStart 4 4 (omega arith) w 1 tol 1 _ s5 (omega arith) (omega arith) h5) λ _ s6 h6.
       meets-then E (λ _ t. Begun 4 4 4 3 t) _ _ _ s6 (meets-queueStart 4 4 (omega arith) w 2 tol 2 _ s6 (omega arith) (omega arith) h6) λ _ s7 h7.
@@ -266,10 +281,10 @@ module _ (J : State → Type 0) (r : Rooms) (K : Keeps r J) where
       (λ _. end-begun 4 4 4 4 _ s8 (omega arith) (omega arith) (omega arith) h8 tt)
       (λ _. begun-ready 4 4 4 s8 (omega arith) (omega arith) (omega arith) h8)
 
-  meets-four : (w : World) (tol : Float) (s : State) → Begun 4 4 0 0 s → Meets (λ _ t. Ready J 4 0 t) (Ending J 4 r) (startFour w r tol s)
+  pub meets-four : (w : World) (tol : Float) (s : State) → Begun 4 4 0 0 s → Meets (λ _ t. Started 4 t) (Ending J theStart 4 r) (startFour w r tol s)
   unfolding startFour
   meets-four w tol s h =
-      let E = Ending J 4 r in
+      let E = Ending J theStart 4 r in
       meets-look E _ _ s
       (meets-then E (λ _ t. Begun 4 4 0 0 t) _ _ _ s
       (meets-doIf E _ _ _ s (λ _. meets-put E _ _ s (begun-exchanged s h)) (λ _. h)) λ _ s0 h0.
@@ -282,7 +297,7 @@ module _ (J : State → Type 0) (r : Rooms) (K : Keeps r J) where
 
   -- ---- the whole run
 
-  begun : (f : ℕ) (s : State) → Empty s → J s → Begun f 0 0 0 s
+  pub begun : (f : ℕ) (s : State) → Empty s → J s → Begun f 0 0 0 s
   unfolding liveTo
   begun f s h j = record {
     vertsAre = h .noVerts;
@@ -299,21 +314,21 @@ module _ (J : State → Type 0) (r : Rooms) (K : Keeps r J) where
   }
 
   -- the vertices after the bootstrap
-  record Early (f d : ℕ) (s : State) : Type 0 where
-    verts : ℕ
-    begins : Begun f verts 0 0 s
-    four : d ≡ 3 → verts ≡ 4
-    two : (d ≡ 3 → ⊥) → (2 ≤ verts) × (verts ≤ 3)
+  pub record Early (f d : ℕ) (s : State) : Type 0 where
+    pub verts : ℕ
+    pub begins : Begun f verts 0 0 s
+    pub four : d ≡ 3 → verts ≡ 4
+    pub two : (d ≡ 3 → ⊥) → (2 ≤ verts) × (verts ≤ 3)
 
   module _ (w : World) (x : VoronoiSimplex) (small : x .dim ≤ 3) where
     abbrev F : ℕ
     F = facesAtStart x
 
-    meets-vertices : (s : State) → Empty s → J s → Meets (λ _ t. Early F (x .dim) t) (Ending J F r) (startVertices w r x s)
+    pub meets-vertices : (s : State) → Empty s → J s → Meets (λ _ t. Early F (x .dim) t) (Ending J theStart F r) (startVertices w r x s)
     unfolding startVertices
     meets-vertices s h j =
         let d = x .dim in
-        let E = Ending J F r in
+        let E = Ending J theStart F r in
         meets-then E (λ _ t. Begun F (d + 1) 0 0 t) _ _ _ s
         (meets-map E (λ _ t b. rw native.Mathlib.Nat.zero-add at b) (meets-points F x (d + 1) 0 0 s (omega arith) (begun F s h j))) λ _ s1 h1.
         meets-doIf E _ (eqb d 0) (bootstrap w r) s1
@@ -322,60 +337,89 @@ module _ (J : State → Type 0) (r : Rooms) (K : Keeps r J) where
         meets-map E (λ _ t b. record { verts = 2; begins = b; four = λ z. omega arith; two = λ z. (omega arith, omega arith) }) (meets-bootstrap F w s1 h1'))
         (λ e. let q : d ≡ 0 → ⊥ = eqb-false d 0 e in record { verts = d + 1; begins = h1; four = λ z. omega arith; two = λ z. (omega arith, omega arith) })
 
-    meets-faces : (tol : Float) (s2 : State) → Early F (x .dim) s2 → Meets (λ _ t. Ready J F 0 t) (Ending J F r) (startFaces w r (x .dim) tol s2)
+    pub meets-faces : (tol : Float) (s2 : State) → Early F (x .dim) s2 → Meets (λ _ t. Started F t) (Ending J theStart F r) (startFaces w r (x .dim) tol s2)
     unfolding startFaces
     meets-faces tol s2 h2 =
         let d = x .dim in
-        let E = Ending J F r in
+        let E = Ending J theStart F r in
         meets-branch E _ (eqb d 3) _ _ s2
         (λ e. let q : d ≡ 3 = eqb-true d 3 e in
         let b : Begun F 4 0 0 s2 = subst (λ (n : ℕ). Begun F n 0 0 s2) (h2 .four q) (h2 .begins) in
-        subst (λ (n : ℕ). Begun n 4 0 0 s2 → Meets (λ _ t. Ready J n 0 t) (Ending J n r) (startFour w r tol s2)) (sym (starts (eqb d 3) e)) (λ c. meets-four w _ s2 c) b)
+        subst (λ (n : ℕ). Begun n 4 0 0 s2 → Meets (λ _ t. Started n t) (Ending J theStart n r) (startFour w r tol s2)) (sym (starts (eqb d 3) e)) (λ c. meets-four w _ s2 c) b)
         (λ e. let q = h2 .two (eqb-false d 3 e) in
-        subst (λ (n : ℕ). Begun n (h2 .verts) 0 0 s2 → Meets (λ _ t. Ready J n 0 t) (Ending J n r) (startTwo w r tol s2)) (sym (starts-two (eqb d 3) e)) (λ c. meets-two w _ (h2 .verts) s2 (q .0) (q .1) c) (h2 .begins))
-
-    -- between two expansions
-    pub between-ready : (s : State) → Empty s → J s → (k : ℕ) (b : Best) (t : State) → Between w r x s k b t → Best-ready J r K F w k b t
-    between-ready s h j _ _ _ (started tol b t u e1 e2 l) =
-        let a : Early F (x .dim) t = (rw e1 at (meets-vertices s h j)) .held in
-        record { ready = (rw e2 at (meets-faces tol t a)) .held; bestIn = l }
-    between-ready s h j _ _ _ (expanded tol k b b1 t u q l e) =
-        (rw e at (meets-nextTurn J r K F w k tol b t l (between-ready s h j k b t q))) .held
+        subst (λ (n : ℕ). Begun n (h2 .verts) 0 0 s2 → Meets (λ _ t. Started n t) (Ending J theStart n r) (startTwo w r tol s2)) (sym (starts-two (eqb d 3) e)) (λ c. meets-two w _ (h2 .verts) s2 (q .0) (q .1) c) (h2 .begins))
 
   -- the start, with its faces
-  meets-begin : (w : World) (x : VoronoiSimplex) (s : State) → Empty s → J s → Meets (λ _ t. Ready J (facesAtStart x) 0 t) (Ending J (facesAtStart x) r) (begin w r x s)
+  pub meets-begin : (w : World) (x : VoronoiSimplex) (s : State) → Empty s → J s → Meets (λ _ t. Started (facesAtStart x) t) (Ending J theStart (facesAtStart x) r) (begin w r x s)
   unfolding begin
   meets-begin w x s h j =
       let f = facesAtStart x in
-      let E = Ending J f r in
+      let E = Ending J theStart f r in
       meets-then E (λ _ t. Empty t × J t × (x .dim ≤ 3)) _ _ _ s
       (meets-stopIf E _ (not (isSimplex x)) _ s
       (λ _. end-begun f 0 0 0 _ s (omega arith) (omega arith) (omega arith) (begun f s h j) tt)
       (λ e. (h, j, low-dimension x (not-false _ e)))) λ _ s1 h1.
       meets-then E (λ _ t. Early f (x .dim) t) _ _ _ s1 (meets-vertices w x (h1 .2) s1 (h1 .0) (h1 .1)) λ _ s2 h2.
       meets-look E _ _ s2
-      (meets-then E (λ _ t. Ready J f 0 t) _ _ _ s2 (meets-faces w x (h1 .2) _ s2 h2) λ _ s3 h3.
+      (meets-then E (λ _ t. Started f t) _ _ _ s2 (meets-faces w x (h1 .2) _ s2 h2) λ _ s3 h3.
       meets-pure E _ _ s3 h3)
 
-  -- every run ends, within the sizes, and leaves what every move keeps
-  pub run-ends : (w : World) (x : VoronoiSimplex) (s : State) → Empty s → J s → Meets (λ _ t. ⊥) (Ending J (facesAtStart x) r) (epa w r x s)
-  unfolding epa expansions
-  run-ends w x s h j =
-      let f = facesAtStart x in
-      let E = Ending J f r in
-      meets-bind E (λ _ t. Ready J f 0 t) _ _ _ s (meets-begin w x s h j) λ tol s2 h2.
-      meets-look E _ _ s2
-      (meets-then E (λ _ t. Best-ready J r K f w 0 (record { face = Heap.entryAt (s2 .queue) 0 .face; bound = largest (w .format); last = zeroF }) t) _ _ _ s2
-      (meets-stopIf E _ _ _ s2
-      (λ _. (record { from = f; starting = with-all; turns = 0; atMost = omega arith; completed = omega (arith, h2 .completed); underWay = omega arith; within = h2 .within; tight = tt }, h2 .kept))
-      (λ e. record { ready = h2; bestIn = h2 .sound .queueIn .each .below 0 (nonzero (s2 .queue .count) (eqb-false _ _ e)) })) λ _ s3 h3.
-      meets-turns J r K f w 101 0 _ _ s3 (omega arith) h3)
-    where
-      nonzero : (n : ℕ) → (n ≡ 0 → ⊥) → 0 < n
-      nonzero n e = omega arith
+  -- ---- the run, as far as k expansions
+
+  module _ (w : World) (x : VoronoiSimplex) (s : State) (h : Empty s) (j : J s) where
+    abbrev f0 : ℕ
+    f0 = facesAtStart x
+
+    -- before the first
+    pub meets-opened : Meets (λ g t. Best-ready J r K f0 w 0 (g .best) t × (t .faces .count ≡ f0)) (Ending J theStart f0 r) (runTo w r x 0 s)
+    unfolding runTo opened
+    meets-opened =
+        let E = Ending J theStart f0 r in
+        meets-bind E (λ _ t. Started f0 t) _ _ _ s (meets-begin w x s h j) λ tol s2 h2.
+        meets-look E _ _ s2
+        (meets-then E (λ _ t. Best-ready J r K f0 w 0 (record { face = Heap.entryAt (s2 .queue) 0 .face; bound = largest (w .format); last = zeroF }) t × (t .faces .count ≡ f0)) _ _ _ s2
+        (meets-stopIf E _ _ _ s2
+        (λ _. record {
+          end = record { from = f0; starting = with-all; turns = 0; atMost = omega arith; part = theStart; counted = refl; completed = omega (arith, h2 .0 .completed); within = h2 .0 .within; tight = tt };
+          inPart = refl;
+          kept = h2 .0 .kept;
+        })
+        (λ e. (record { ready = h2 .0; bestIn = h2 .0 .sound .queueIn .each .below 0 (nonzero (s2 .queue .count) (eqb-false _ _ e)) }, h2 .1))) λ _ s3 h3.
+        meets-pure E _ _ s3 h3)
+      where
+        nonzero : (n : ℕ) → (n ≡ 0 → ⊥) → 0 < n
+        nonzero n e = omega arith
+
+    -- an end in whatever part
+    abbrev Either : End → State → Type 0
+    Either e t = Ended f0 r e t × J t
+
+    any-part : {A : Type 0} {P : A → State → Type 0} {o : Out A} (q : Part) → Meets P (Ending J q f0 r) o → Meets P Either o
+    any-part q m = meets-ends (λ e t y. (y .end, y .kept)) m
+
+    -- after k of them
+    pub meets-runTo : (k : ℕ) → k ≤ 101 → Meets (λ g t. Best-ready J r K f0 w k (g .best) t) Either (runTo w r x k s)
+    unfolding runTo oneMoreTurn
+    meets-runTo zero l = any-part theStart (meets-map (Ending J theStart f0 r) (λ _ _ y. y .0) meets-opened)
+    meets-runTo (suc k) l =
+        meets-bind Either (λ g t. Best-ready J r K f0 w k (g .best) t) _ _ _ s (meets-runTo k (omega arith)) λ g t b.
+        meets-bind Either (λ b1 u. Best-ready J r K f0 w (suc k) b1 u) _ _ _ t (any-part theTurns (meets-nextTurn J r K f0 w k (g .tol) (g .best) t (omega arith) b)) λ b1 u c.
+        meets-pure Either _ _ u c
+
+    -- the rest
+    pub meets-rest : (k n : ℕ) → k + n ≡ 101 → (g : Carried) (t : State) → Best-ready J r K f0 w k (g .best) t → Meets (λ _ u. ⊥) (Ending J theTurns f0 r) (rest w r n g t)
+    unfolding rest
+    meets-rest k n e g t b = meets-turns J r K f0 w n k (g .tol) (g .best) t e b
+
+    -- every run ends, within the sizes, and leaves what every move keeps
+    pub run-ends : Meets (λ _ t. ⊥) Either (epa w r x s)
+    run-ends =
+        rw (run-through w r x 0 101 refl s)
+        (meets-bind Either (λ g t. Best-ready J r K f0 w 0 (g .best) t) _ _ (rest w r 101) s (meets-runTo 0 (omega arith)) λ g t b.
+        any-part theTurns (meets-rest 0 101 refl g t b))
 
 -- the fact that says nothing
-nothing-kept : (r : Rooms) → Keeps r (λ _. Unit {0})
+pub nothing-kept : (r : Rooms) → Keeps r (λ _. Unit {0})
 nothing-kept r = record {
   onVertex = λ _ _ _ _. tt;
   onExchange = λ _ _ _. tt;
@@ -393,7 +437,7 @@ nothing-kept r = record {
 pub bounded : (w : World) (r : Rooms) (x : VoronoiSimplex) (s : State) → Empty s → Ends (facesAtStart x) r (epa w r x s)
 bounded w r x s h = closing (epa w r x s) (run-ends (λ _. Unit {0}) r (nothing-kept r) w x s h tt)
   where
-    closing : (o : Out Nil) → Meets (λ _ t. ⊥) (Ending (λ _. Unit {0}) (facesAtStart x) r) o → Ends (facesAtStart x) r o
+    closing : (o : Out Nil) → Meets (λ _ t. ⊥) (λ e t. Ended (facesAtStart x) r e t × Unit {0}) o → Ends (facesAtStart x) r o
     closing (onward a t) m = m .held
     closing (ended e t) m = m .held .0
 
@@ -411,23 +455,33 @@ pub demand-3 : (w : World) (x : VoronoiSimplex) (s : State) → Ends (facesAtSta
 unfolding runEpa
 demand-3 w x s = bounded w (roomsOf s) x (fresh s) (empty-fresh s)
 
-start-most : (b : Bool) → cond b 4 2 ≤ 4
+pub start-most : (b : Bool) → cond b 4 2 ≤ 4
 start-most true = omega arith
 start-most false = omega arith
 
--- and stores of 105 vertices, 10,710 faces, 206 edges and 10,710 heap entries are never refused
-pub never-refused : (w : World) (x : VoronoiSimplex) (s : State) → Ample (roomsOf s) → (y : Store) (t : State) → runEpa w x s ≡ ended (noRoom y) t → ⊥
-never-refused w x s a y t e = tight y (subst (λ (o : Out Nil). Ends (facesAtStart x) (roomsOf s) o) e (demand-3 w x s))
+-- and a store of 105 vertices, of 10,710 faces, of 206 edges or of 10,710 heap entries is never refused, whatever the others hold
+pub never-short : (w : World) (x : VoronoiSimplex) (s : State) (y : Store) → suffices y ≤ roomFor y (roomsOf s) → (t : State) → runEpa w x s ≡ ended (noRoom y) t → ⊥
+never-short w x s y enough t e = tight y enough (subst (λ (o : Out Nil). Ends (facesAtStart x) (roomsOf s) o) e (demand-3 w x s))
   where
     few : {n : ℕ} → Starting (facesAtStart x) n → n ≤ 4
     few without = omega arith
     few with-all = start-most (eqb (x .dim) 3)
 
-    tight : (y : Store) → Ended (facesAtStart x) (roomsOf s) (noRoom y) t → ⊥
-    tight theVerts h = omega (arith, h .tight, h .atMost, a .verts)
-    tight theFaces h = omega (arith, h .tight, h .atMost, a .faces, bound-most (h .from) (h .turns) (few (h .starting)) (h .atMost))
-    tight theEdges h = omega (arith, h .tight, h .atMost, a .edges, few (h .starting))
-    tight theHeap h = omega (arith, h .tight, h .atMost, a .heap, bound-most (h .from) (h .turns) (few (h .starting)) (h .atMost))
+    tight : (y : Store) → suffices y ≤ roomFor y (roomsOf s) → Ended (facesAtStart x) (roomsOf s) (noRoom y) t → ⊥
+    tight theVerts a h = omega (arith, h .tight, h .atMost, a)
+    tight theFaces a h = omega (arith, h .tight, h .atMost, a, bound-most (h .from) (h .turns) (few (h .starting)) (h .atMost))
+    tight theEdges a h = omega (arith, h .tight, h .atMost, a, few (h .starting))
+    tight theHeap a h = omega (arith, h .tight, h .atMost, a, bound-most (h .from) (h .turns) (few (h .starting)) (h .atMost))
+
+pub ample-for : (r : Rooms) → Ample r → (y : Store) → suffices y ≤ roomFor y r
+ample-for r a theVerts = a .verts
+ample-for r a theFaces = a .faces
+ample-for r a theEdges = a .edges
+ample-for r a theHeap = a .heap
+
+-- so stores that are ample never are
+pub never-refused : (w : World) (x : VoronoiSimplex) (s : State) → Ample (roomsOf s) → (y : Store) (t : State) → runEpa w x s ≡ ended (noRoom y) t → ⊥
+never-refused w x s a y t e = never-short w x s y (ample-for (roomsOf s) a y) t e
 
 -- at most 101 expansions complete
 pub few-complete : (w : World) (x : VoronoiSimplex) (s : State) (e : End) (t : State) → runEpa w x s ≡ ended e t → t .done ≤ 101

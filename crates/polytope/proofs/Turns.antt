@@ -11,7 +11,7 @@ use Rattle.shape.specs.declared.vertex.Vertex.{Vertex}
 use borrow.Author.Tests.{eqb-true}
 use Rattle.heap.specs.Heap.{Entry, popped}
 use Rattle.polytope.specs.Polytope.{World, State, Rooms, End, Found, _>>=_, _>>_, pure, look, put, withQueue, normalAt, answerOf, answer, popEntry, popLive, converged, stuck, heapEmpty, enoughTurns, Best, bettered, complete, turn, advance, turnIf, nextTurn, turns}
-use Rattle.polytope.specs.Bounds.{Good, bound, Within, Tight, with-all, FromPoint}
+use Rattle.polytope.specs.Bounds.{Good, bound, Within, Tight, with-all, theTurns, underWay, underWayFound, FromPoint}
 use Rattle.polytope.proofs.Basics.{all-as}
 use Rattle.polytope.proofs.Sizes.{bound-suc}
 use Rattle.polytope.proofs.Heaps.{good-popped}
@@ -20,17 +20,17 @@ use Rattle.polytope.proofs.Moves.{Keeps, withVertex}
 use Rattle.polytope.proofs.Steps.{Meets, goes, meets-bind, meets-then, meets-look, meets-pure, meets-stop, meets-doIf, meets-branch, meets-vertex, meets-map}
 
 -- an entry that was popped is of a live face
-abbrev IsLive : Option Entry → State → Type 0
+abbrev pub IsLive : Option Entry → State → Type 0
 IsLive none s = Unit {0}
 IsLive (some e) s = (e .face < s .faces .count) × (getD (s .faces .dead) (e .face) 1 ≡ 0)
 
 module _ (J : State → Type 0) (r : Rooms) (K : Keeps r J) (f : ℕ) (w : World) where
   abbrev E : End → State → Type 0
-  E = Ending J f r
+  E = Ending J theTurns f r
 
   -- ---- pop
 
-  popped-ready : (k n : ℕ) (s : State) → s .queue .count ≡ suc n → Ready J f k s → Ready J f k (withQueue s (popped (s .queue) n)) × (popped (s .queue) n .count ≡ n)
+  pub popped-ready : (k n : ℕ) (s : State) → s .queue .count ≡ suc n → Ready J f k s → Ready J f k (withQueue s (popped (s .queue) n)) × (popped (s .queue) n .count ≡ n)
   popped-ready k n s e h =
       let x = h .sound in
       let v = h .within in
@@ -46,14 +46,14 @@ module _ (J : State → Type 0) (r : Rooms) (K : Keeps r J) (f : ℕ) (w : World
         g .counts,
       )
 
-  abbrev Popped : ℕ → ℕ → Entry → State → Type 0
+  abbrev pub Popped : ℕ → ℕ → Entry → State → Type 0
   Popped k n e t = Ready J f k t × (t .queue .count ≡ n) × (e .face < t .faces .count)
 
-  meets-popEntry : (k n : ℕ) (s : State) → s .queue .count ≡ suc n → Ready J f k s → Meets (λ e t. Popped k n e t × (t .faces .count ≡ s .faces .count)) E (popEntry n s)
+  pub meets-popEntry : (k n : ℕ) (s : State) → s .queue .count ≡ suc n → Ready J f k s → Meets (λ e t. Popped k n e t × (t .faces .count ≡ s .faces .count)) E (popEntry n s)
   unfolding popEntry _>>=_ _>>_ look put pure
   meets-popEntry k n s e h = let p = popped-ready k n s e h in goes ((p .0, p .1, h .sound .queueIn .each .below 0 (omega arith)), refl)
 
-  meets-popLive : (k n : ℕ) (s : State) → s .queue .count ≡ n → Ready J f k s → Meets (λ o t. Ready J f k t × IsLive o t × (t .faces .count ≡ s .faces .count)) E (popLive n s)
+  pub meets-popLive : (k n : ℕ) (s : State) → s .queue .count ≡ n → Ready J f k s → Meets (λ o t. Ready J f k t × IsLive o t × (t .faces .count ≡ s .faces .count)) E (popLive n s)
   unfolding popLive
   meets-popLive k zero s e h = meets-pure E _ none s (h, tt, refl)
   meets-popLive k (suc n) s e h =
@@ -64,7 +64,7 @@ module _ (J : State → Type 0) (r : Rooms) (K : Keeps r J) (f : ℕ) (w : World
 
   -- ---- a turn
 
-  turned : (k : ℕ) (s : State) (i : ℕ) (p : Vertex) → k ≤ 100 → Ready J f k s → IsLive (some (record { face = i; key = lib.Ieee.nan })) s → s .verts .count < r .vertices
+  pub turned : (k : ℕ) (s : State) (i : ℕ) (p : Vertex) → k ≤ 100 → Ready J f k s → IsLive (some (record { face = i; key = lib.Ieee.nan })) s → s .verts .count < r .vertices
       → Turned J f k (s .verts .count) i (withVertex s p)
   turned k s i p l h a room =
       let x = h .sound in
@@ -88,7 +88,7 @@ module _ (J : State → Type 0) (r : Rooms) (K : Keeps r J) (f : ℕ) (w : World
   within-suc : (k : ℕ) (s : State) → Within f k s → Within f (suc k) s
   within-suc k s v = record { fewVerts = omega (arith, v .fewVerts); fewLive = omega (arith, v .fewLive); fewMade = omega (arith, v .fewMade, bound-suc f k); fewEdges = omega (arith, v .fewEdges); fewQueued = omega (arith, v .fewQueued, bound-suc f k) }
 
-  better-in : (b : Best) (i n : ℕ) (c : Float) → b .face < n → i < n → bettered b i c .face < n
+  pub better-in : (b : Best) (i n : ℕ) (c : Float) → b .face < n → i < n → bettered b i c .face < n
   unfolding bettered
   better-in b i n c hb hi = by (lt c (b .bound))
     where
@@ -102,11 +102,11 @@ module _ (J : State → Type 0) (r : Rooms) (K : Keeps r J) (f : ℕ) (w : World
     pub bestIn : b .face < s .faces .count
 
   -- the same, before the expansion is counted
-  record Best-grown (k : ℕ) (b : Best) (s : State) : Type 0 where
-    grown : Grown J f k s
-    bestIn : b .face < s .faces .count
+  pub record Best-grown (k : ℕ) (b : Best) (s : State) : Type 0 where
+    pub grown : Grown J f k s
+    pub bestIn : b .face < s .faces .count
 
-  meets-turn : (k : ℕ) (tol : Float) (b : Best) (e : Entry) (s : State) → k ≤ 100 → Best-ready k b s → IsLive (some e) s
+  pub meets-turn : (k : ℕ) (tol : Float) (b : Best) (e : Entry) (s : State) → k ≤ 100 → Best-ready k b s → IsLive (some e) s
       → Meets (λ b1 t. Best-grown k b1 t) E (turn w r tol b e s)
   unfolding turn advance
   meets-turn k tol b e s l hb a =
@@ -116,32 +116,40 @@ module _ (J : State → Type 0) (r : Rooms) (K : Keeps r J) (f : ℕ) (w : World
       meets-look E _ _ s
       (meets-then E (λ _ t. Turned J f k (s .verts .count) (e .face) t × (t .faces .count ≡ n)) _ _ _ s
       (meets-vertex E _ r _ s
-      (λ full. (record { from = f; starting = with-all; turns = suc k; atMost = omega arith; completed = omega (arith, h .completed); underWay = omega (arith, h .completed); within = within-suc k s (h .within); tight = omega (arith, h .within .fewVerts) }, h .kept))
+      (λ full. record {
+        end = record { from = f; starting = with-all; turns = suc k; atMost = omega arith; part = theTurns; counted = omega (arith, h .completed); completed = omega (arith, h .completed); within = within-suc k s (h .within); tight = omega (arith, h .within .fewVerts) };
+        inPart = refl;
+        kept = h .kept;
+      })
       (λ room. (turned k s (e .face) _ l h a room, refl)))
       λ _ t u.
       meets-then E (λ _ t. Turned J f k (s .verts .count) (e .face) t × (t .faces .count ≡ n)) _ _ _ t
-      (meets-doIf E _ _ _ t (λ _. end-answer J r K f w k (record { face = e .face; dist = lib.Ieee.nan; point = s .verts .count; tol = tol }) _ converged tt _ t (u .0 .stage)) (λ _. u)) λ _ t1 u1.
+      (meets-doIf E _ _ _ t (λ _. end-answer J r K f w k (record { face = e .face; dist = lib.Ieee.nan; point = s .verts .count; tol = tol }) _ converged tt refl _ t (u .0 .stage)) (λ _. u)) λ _ t1 u1.
       meets-then E (λ _ t. Turned J f k (s .verts .count) (e .face) t × (t .faces .count ≡ n)) _ _ _ t1
-      (meets-doIf E _ _ _ t1 (λ _. end-answer J r K f w k (record { face = e .face; dist = lib.Ieee.nan; point = s .verts .count; tol = tol }) _ stuck tt _ t1 (u1 .0 .stage)) (λ _. u1)) λ _ t2 u2.
+      (meets-doIf E _ _ _ t1 (λ _. end-answer J r K f w k (record { face = e .face; dist = lib.Ieee.nan; point = s .verts .count; tol = tol }) _ stuck tt refl _ t1 (u1 .0 .stage)) (λ _. u1)) λ _ t2 u2.
       meets-then E (λ _ t. Grown J f k t × (t2 .faces .count ≤ t .faces .count)) _ _ _ t2
       (meets-expand J r K f w k _ t2 (u2 .0)) λ _ t3 u3.
       meets-pure E _ _ t3 (record { grown = u3 .0; bestIn = better-in b (e .face) (t3 .faces .count) c (omega (arith, hb .bestIn, u2 .1, u3 .1)) (omega (arith, a .0, u2 .1, u3 .1)) }))
 
   -- ---- all turns
 
-  end-ready : (k : ℕ) (e : End) (s : State) → k ≤ 101 → Ready J f k s → Tight f k r e → E e s
-  end-ready k e s l h t = (record { from = f; starting = with-all; turns = k; atMost = l; completed = omega (arith, h .completed); underWay = omega (arith, h .completed); within = h .within; tight = t }, h .kept)
+  end-ready : (k : ℕ) (e : End) (s : State) → k ≤ 101 → Ready J f k s → Tight f k r e → underWay e ≡ 0 → E e s
+  end-ready k e s l h t y = record {
+    end = record { from = f; starting = with-all; turns = k; atMost = l; part = theTurns; counted = omega (arith, h .completed); completed = omega (arith, h .completed); within = h .within; tight = t };
+    inPart = refl;
+    kept = h .kept;
+  }
 
-  answer-ready : {A : Type 0} (Q : A → State → Type 0) (k : ℕ) (why : Found) → FromPoint f why → (i : ℕ) (s : State) → k ≤ 101 → Ready J f k s → Meets Q E (answer w why i s)
+  answer-ready : {A : Type 0} (Q : A → State → Type 0) (k : ℕ) (why : Found) → FromPoint f why → underWayFound why ≡ 0 → (i : ℕ) (s : State) → k ≤ 101 → Ready J f k s → Meets Q E (answer w why i s)
   unfolding answer answerOf
-  answer-ready Q k why y i s l h = meets-look E Q _ s (meets-stop E Q _ s (end-ready k _ s l h y))
+  answer-ready Q k why y o i s l h = meets-look E Q _ s (meets-stop E Q _ s (end-ready k _ s l h y o))
 
-  meets-turnIf : (k : ℕ) (tol : Float) (b : Best) (o : Option Entry) (s : State) → k ≤ 100 → Best-ready k b s → IsLive o s → Meets (λ b1 t. Best-grown k b1 t) E (turnIf w r tol b o s)
-  meets-turnIf k tol b none s l h a = answer-ready _ k heapEmpty tt _ s (omega arith) (h .ready)
+  pub meets-turnIf : (k : ℕ) (tol : Float) (b : Best) (o : Option Entry) (s : State) → k ≤ 100 → Best-ready k b s → IsLive o s → Meets (λ b1 t. Best-grown k b1 t) E (turnIf w r tol b o s)
+  meets-turnIf k tol b none s l h a = answer-ready _ k heapEmpty tt refl _ s (omega arith) (h .ready)
   meets-turnIf k tol b (some e) s l h a = meets-turn k tol b e s l h a
 
   -- the expansion is counted
-  meets-complete : (k : ℕ) (b : Best) (s : State) → Best-grown k b s → Meets (λ _ t. Best-ready (suc k) b t) E (complete s)
+  pub meets-complete : (k : ℕ) (b : Best) (s : State) → Best-grown k b s → Meets (λ _ t. Best-ready (suc k) b t) E (complete s)
   unfolding complete _>>=_ look put
   meets-complete k b s h =
       let g = h .grown in
@@ -170,7 +178,7 @@ module _ (J : State → Type 0) (r : Rooms) (K : Keeps r J) (f : ℕ) (w : World
   -- the turns end the run
   pub meets-turns : (n k : ℕ) (tol : Float) (b : Best) (s : State) → k + n ≡ 101 → Best-ready k b s → Meets (λ _ t. ⊥) E (turns w r tol n b s)
   unfolding turns
-  meets-turns zero k tol b s l h = answer-ready _ k enoughTurns tt _ s (omega arith) (h .ready)
+  meets-turns zero k tol b s l h = answer-ready _ k enoughTurns tt refl _ s (omega arith) (h .ready)
   meets-turns (suc n) k tol b s l h =
       meets-bind E (λ b1 t. Best-ready (suc k) b1 t) _ _ _ s (meets-nextTurn k tol b s (omega arith) h) λ b1 t h1.
       meets-turns n (suc k) tol b1 t (omega arith) h1

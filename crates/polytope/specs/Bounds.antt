@@ -1,13 +1,12 @@
 -- What is said of the run's sizes (demand 3), and of the stores between two expansions. Definitions only.
 use mathlib.Core.Path.{_≡_}
-use Prim.Native.Nat.{ℕ, suc, _+_, _*_, _<_, _≤_}
+use Prim.Native.Nat.{ℕ, _+_, _*_, _<_, _≤_}
 use mathlib.Core.Bool.{cond}
 use mathlib.Core.List.{List}
 use lib.ListN.{getD}
 use lib.Dec.{eqb}
-use lib.Ieee.{Float}
 use Rattle.heap.specs.Heap.{Heap}
-use Rattle.polytope.specs.Polytope.{World, State, Rooms, Best, startVertices, startFaces, nextTurn, VoronoiSimplex, End, answers, nothing, panics, noRoom, Found, singlePoint, converged, stuck, newFaceNearer, enoughTurns, heapEmpty, Store, theVerts, theFaces, theEdges, theHeap, Out, onward, ended, Nil, live}
+use Rattle.polytope.specs.Polytope.{State, Rooms, VoronoiSimplex, End, answers, nothing, panics, noRoom, Found, singlePoint, converged, stuck, newFaceNearer, enoughTurns, heapEmpty, Lost, keyAtStart, noneHolds, nothingQueued, noSilhouette, allDeleted, keyLater, Store, theVerts, theFaces, theEdges, theHeap, Out, onward, ended, Nil, live}
 
 -- ---- the stores
 
@@ -27,12 +26,6 @@ pub record Sound (s : State) : Type 0 where
   pub ptsIn : AllIn (s .verts .count) (s .faces .count * 3) (s .faces .pts)
   pub queueIn : Good (s .faces .count) (s .queue .count) (s .queue)
   pub queueFew : s .queue .count ≤ s .faces .count
-
--- what k expansions leave, from the stores s on: the best face and the stores. Any tolerance and any first best face are allowed, so the run's own are among them
-pub data Between (w : World) (r : Rooms) (x : VoronoiSimplex) (s : State) : ℕ → Best → State → Type 0 where
-  started : (tol : Float) (b : Best) (t u : State) → startVertices w r x s ≡ onward tt t → startFaces w r (x .dim) tol t ≡ onward tt u → b .face < u .faces .count
-      → Between w r x s 0 b u
-  expanded : (tol : Float) (k : ℕ) (b b1 : Best) (t u : State) → Between w r x s k b t → k ≤ 100 → nextTurn w r tol b t ≡ onward b1 u → Between w r x s (suc k) b1 u
 
 -- ---- the sizes
 
@@ -75,6 +68,42 @@ pub data Starting (F : ℕ) : ℕ → Type 0 where
   without : Starting F 0
   with-all : Starting F F
 
+-- ---- the expansions of a run that has ended, counting one under way
+
+-- an expansion is under way from where its vertex is asked for, so that an answer which that vertex decides counts it, to where it is complete
+abbrev pub underWayFound : Found → ℕ
+underWayFound singlePoint = 0
+underWayFound converged = 1
+underWayFound stuck = 1
+underWayFound newFaceNearer = 1
+underWayFound enoughTurns = 0
+underWayFound heapEmpty = 0
+
+abbrev pub underWayLost : Lost → ℕ
+underWayLost keyAtStart = 0
+underWayLost noneHolds = 0
+underWayLost nothingQueued = 0
+underWayLost noSilhouette = 1
+underWayLost allDeleted = 1
+underWayLost keyLater = 1
+
+-- a panic is one of the start; a store may be full in the start too, where none is under way (`theStart`, below)
+abbrev pub underWay : End → ℕ
+underWay (answers y a b n) = underWayFound y
+underWay (nothing y) = underWayLost y
+underWay (panics y) = 0
+underWay (noRoom y) = 1
+
+-- where a run ends: before its first expansion, or from there on
+pub data Part : Type 0 where
+  theStart : Part
+  theTurns : Part
+
+-- the expansions, those completed and one under way: none in the start
+abbrev pub expansionsAt : Part → End → State → ℕ
+expansionsAt theStart e s = 0
+expansionsAt theTurns e s = s .done + underWay e
+
 -- a run's end, where the start has F faces, if any: the starting faces; so many expansions, counting one under way, and those completed;
 -- the sizes; and when it is refused for room
 pub record Ended (F : ℕ) (r : Rooms) (e : End) (s : State) : Type 0 where
@@ -82,8 +111,9 @@ pub record Ended (F : ℕ) (r : Rooms) (e : End) (s : State) : Type 0 where
   pub starting : Starting F from
   pub turns : ℕ
   pub atMost : turns ≤ 101
+  pub part : Part
+  pub counted : turns ≡ expansionsAt part e s
   pub completed : s .done ≤ turns
-  pub underWay : turns ≤ s .done + 1
   pub within : Within from turns s
   pub tight : Tight from turns r e
 
@@ -96,9 +126,22 @@ Ends f r (ended e s) = Ended f r e s
 abbrev pub facesAtStart : VoronoiSimplex → ℕ
 facesAtStart x = cond (eqb (x .dim) 3) 4 2
 
--- the room that suffices
+-- the room of a store, and the room that suffices for it
+abbrev pub roomFor : Store → Rooms → ℕ
+roomFor theVerts r = r .vertices
+roomFor theFaces r = r .faces
+roomFor theEdges r = r .edges
+roomFor theHeap r = r .heap
+
+abbrev pub suffices : Store → ℕ
+suffices theVerts = 105
+suffices theFaces = 10710
+suffices theEdges = 206
+suffices theHeap = 10710
+
+-- enough of each
 pub record Ample (r : Rooms) : Type 0 where
-  pub verts : 105 ≤ r .vertices
-  pub faces : 10710 ≤ r .faces
-  pub edges : 206 ≤ r .edges
-  pub heap : 10710 ≤ r .heap
+  pub verts : suffices theVerts ≤ r .vertices
+  pub faces : suffices theFaces ≤ r .faces
+  pub edges : suffices theEdges ≤ r .edges
+  pub heap : suffices theHeap ≤ r .heap

@@ -1,3 +1,4 @@
--- What the functions' proofs cite.
+-- What the functions' proofs cite, and demand 3 of a turn.
 pub mod Turns
 pub mod Windows
+pub mod Ample
