@@ -1,70 +1,25 @@
 -- THE AGREEMENT OF RUNS: two runs from one simplex, over stores of any lengths and any former content, end the same and leave the same content up to the counts, but for a refusal of the one
--- for room that the other has. Any format, any support function, any face maker. By `twins-epa` of TwinRuns.antt, which follows both step by step. Assumes nothing.
-use mathlib.Core.Path.{_≡_, refl, sym, ap, subst}
-use Prim.Native.Nat.{ℕ, _<_, _≤_}
-use native.Mathlib.Omega.{arith}
-use Rattle.polytope.specs.Polytope.{World, State, Rooms, VoronoiSimplex, End, noRoom, Store, theVerts, theFaces, theEdges, theHeap, Out, onward, ended, Nil, live, fresh, roomsOf, runEpa}
-use Rattle.polytope.specs.Bounds.{roomFor, suffices, Ends, facesAtStart}
-use Rattle.polytope.specs.Same.{Same, Short, short, Agreed, firstShort, secondShort, alike, SameEnd, AtLeast, Equivalent, equal, enough}
-use Rattle.polytope.proofs.Start.{empty-fresh, demand-3, never-short}
-use Rattle.polytope.proofs.Twins.{same-live}
-use Rattle.polytope.proofs.TwinRuns.{twin-fresh, twins-epa}
-
-at-least : (r r' : Rooms) → AtLeast r r' → (y : Store) → roomFor y r ≤ roomFor y r'
-at-least r r' a theVerts = a .vertices
-at-least r r' a theFaces = a .faces
-at-least r r' a theEdges = a .edges
-at-least r r' a theHeap = a .heap
-
--- an end for want of room that is none
-not-short : {r r' : Rooms} {e : End} → Short r r' e → ((y : Store) → e ≡ noRoom y → roomFor y r < roomFor y r' → ⊥) → ⊥
-not-short (short y l) n = n y refl l
+-- for room that the other has. Any format, any support function, any face maker. The proofs stand in Agreeing.antt. Assumes nothing.
+use mathlib.Core.Path.{_≡_}
+use Rattle.polytope.specs.Polytope.{World, State, VoronoiSimplex, End, noRoom, Store, ended, roomsOf, runEpa}
+use Rattle.polytope.specs.Same.{Agreed, SameEnd, AtLeast, Equivalent}
+use Rattle.polytope.proofs.Agreeing as Agreeing
+pub use Rattle.polytope.proofs.Agreeing.{Ran, runs}
 
 -- two runs, the one over the stores s, the other over t, with their ends and the stores that they leave
 module _ (w : World) (x : VoronoiSimplex) (s t : State) (e f : End) (s1 t1 : State) (p : runEpa w x s ≡ ended e s1) (q : runEpa w x t ≡ ended f t1) where
   -- TWO RUNS AGREE, or one is refused for room that the other has
   pub runs-agree : Agreed (roomsOf s) (roomsOf t) e f s1 t1
-  unfolding runEpa
-  runs-agree = (rw (p, q) at (twins-epa (roomsOf s) (roomsOf t) w x (fresh s) (fresh t) (empty-fresh s) (twin-fresh s t))) .held
-
-  -- where no such refusal is
-  agree-but : ((y : Store) → e ≡ noRoom y → roomFor y (roomsOf s) < roomFor y (roomsOf t) → ⊥) → ((y : Store) → f ≡ noRoom y → roomFor y (roomsOf t) < roomFor y (roomsOf s) → ⊥) → SameEnd e f s1 t1
-  agree-but ne nf = by runs-agree
-    where
-      by : Agreed (roomsOf s) (roomsOf t) e f s1 t1 → SameEnd e f s1 t1
-      by (firstShort h) = absurd (not-short h ne)
-      by (secondShort h) = absurd (not-short h nf)
-      by (alike h g) = record { end = h; stores = g; living = same-live s1 t1 g }
+  runs-agree = Agreeing.runs-agree w x s t e f s1 t1 p q
 
   -- NEITHER REFUSED FOR ROOM: the same end, counts and live faces, and the same content up to the counts, whatever the stores' lengths and former content
   pub agreement : ((y : Store) → e ≡ noRoom y → ⊥) → ((y : Store) → f ≡ noRoom y → ⊥) → SameEnd e f s1 t1
-  agreement ne nf = agree-but (λ y i l. ne y i) (λ y i l. nf y i)
+  agreement = Agreeing.agreement w x s t e f s1 t1 p q
 
   -- THE SAME ROOM OF EACH STORE, or enough of it in both: the same in refusals too
   pub no-difference : ((y : Store) → Equivalent (roomsOf s) (roomsOf t) y) → SameEnd e f s1 t1
-  no-difference rooms = agree-but (λ y i l. first y i l (rooms y)) (λ y i l. second y i l (rooms y))
-    where
-      first : (y : Store) → e ≡ noRoom y → roomFor y (roomsOf s) < roomFor y (roomsOf t) → Equivalent (roomsOf s) (roomsOf t) y → ⊥
-      first y i l (equal m) = omega arith
-      first y i l (enough a b) = never-short w x s y a s1 (subst (λ (z : End). runEpa w x s ≡ ended z s1) i p)
-
-      second : (y : Store) → f ≡ noRoom y → roomFor y (roomsOf t) < roomFor y (roomsOf s) → Equivalent (roomsOf s) (roomsOf t) y → ⊥
-      second y i l (equal m) = omega arith
-      second y i l (enough a b) = never-short w x t y b t1 (subst (λ (z : End). runEpa w x t ≡ ended z t1) i q)
+  no-difference = Agreeing.no-difference w x s t e f s1 t1 p q
 
   -- MORE ROOM CHANGES NOTHING of a run that is not refused for room
   pub more-room : ((y : Store) → e ≡ noRoom y → ⊥) → AtLeast (roomsOf s) (roomsOf t) → SameEnd e f s1 t1
-  more-room ne big = agree-but (λ y i l. ne y i) (λ y i l. let m = at-least (roomsOf s) (roomsOf t) big y in omega arith)
-
--- and every run ends
-pub record Ran (w : World) (x : VoronoiSimplex) (s : State) : Type 0 where
-  pub end : End
-  pub stores : State
-  pub ran : runEpa w x s ≡ ended end stores
-
-pub runs : (w : World) (x : VoronoiSimplex) (s : State) → Ran w x s
-runs w x s = by (runEpa w x s) refl (demand-3 w x s)
-  where
-    by : (o : Out Nil) → runEpa w x s ≡ o → Ends (facesAtStart x) (roomsOf s) o → Ran w x s
-    by (onward a t) q h = absurd h
-    by (ended e t) q h = record { end = e; stores = t; ran = q }
+  more-room = Agreeing.more-room w x s t e f s1 t1 p q

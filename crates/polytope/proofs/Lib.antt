@@ -21,6 +21,7 @@ pub mod Along
 pub mod Twins
 pub mod TwinTurns
 pub mod TwinRuns
+pub mod Agreeing
 pub mod Agreement
 pub mod Passes
 pub mod Counted
