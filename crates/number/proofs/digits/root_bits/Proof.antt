@@ -1,112 +1,77 @@
--- `number::digits::root_bits` meets its contract, by the facts of `Steps.antt` on plain numbers. Assumes nothing.
-use mathlib.Core.Path.{refl, sym, subst}
-use Prim.Native.Nat.{ℕ, _*_, _/_, _^_, _≤_, _<_}
+-- `number::digits::root_bits` meets its contract: what `root_of` is handed is the significand, with its leading digit at the 24th place, and the places that are left. Assumes nothing.
+use mathlib.Core.Path.{_≡_, sym, ap, _∙_}
+use Prim.Native.Nat.{ℕ, suc, _+_, _-_, _*_, _/_, _%_, _^_, _≤_, _<_}
+use native.Mathlib.Nat.{mod-eq-of-lt, lt-of-lt-of-le}
 use native.Mathlib.Omega.{arith}
 use borrow.Author.Needs.{needs}
+use lib.Dec.{lit≤}
 use lib.Count.{leadingZeros}
-use lib.Ieee.{binary32}
-use Rattle.number.specs.Digits.{Rounded, sig, expo}
-use Rattle.number.proofs.Steps.{Lead, Taken, parts, lead, left, shift, taken, unwrapped, digits, put}
+use lib.Ieee.{binary32, ofBits}
+use Rattle.number.specs.Root.{square}
+use Rattle.number.proofs.Width.{Lead, lead, low-square, high-square}
 use Rattle.number.proofs.digits.root_bits.Statement.{statement}
 use Rattle.number.proofs.digits.root_bits.Tie as tie
 
-leads : (c : tie.After-significand) → Lead (c .significand .result) (leadingZeros 32 (c .significand .result))
-leads c =
+-- ---- below the normal numbers
+leads : (c : tie.Then1) → Lead binary32 32 (c .before .args .b) (leadingZeros 32 (c .before .args .b))
+leads c = lead binary32 32 (c .before .args .b) (lit≤ tt) (c .before .pre .0) (c .if1 .taken)
+
+-- the shift drops nothing
+whole : (c : tie.Then1) → let t = c .before .args .b * 2 ^ (leadingZeros 32 (c .before .args .b) - 8) in t % 2 ^ 32 ≡ t
+whole c = mod-eq-of-lt (lt-of-lt-of-le (leads c .high-end) (lit≤ tt))
+
+low-number : (c : tie.Then1) → let b = c .before .args .b in let z = leadingZeros 32 b - 8 in square binary32 (ofBits binary32 b) ≡ b * 2 ^ z % 2 ^ 32 * 2 ^ (23 + (126 - z))
+low-number c =
     let b = c .before .args .b in
-    let t = c .significand .result in
-    let p = parts b t (expo binary32 b) (c .before .pre .0) (c .before .pre .1) (c .significand .ensures) refl in
-    lead t (p .some) (p .small)
+    let z = leadingZeros 32 b - 8 in
+    low-square binary32 b z (23 + (126 - z)) (c .if1 .taken) (sums z (omega (arith, leads c .most))) ∙ ap (λ (m : ℕ). m * 2 ^ (23 + (126 - z))) (sym (whole c))
+  where
+    sums : (z : ℕ) → z ≤ 126 → z + (23 + (126 - z)) ≡ 149
+    sums z h = omega arith
 
-far : (c : tie.After-exponent) → c .exponent .result ≤ 253
-far c =
-    let b = c .before .before .args .b in
-    parts b (sig binary32 b) (c .exponent .result) (c .before .before .pre .0) (c .before .before .pre .1) refl (c .exponent .ensures) .far
-
--- z, j and n as the code has them, of the number t and the exponent e
-abbrev zeros : tie.After-exponent → ℕ
-zeros c = leadingZeros 32 (c .before .significand .result)
-
-abbrev over : tie.After-exponent → ℕ
-over c = left (zeros c) (c .exponent .result)
-
-abbrev radicand : tie.After-exponent → ℕ
-radicand c = c .before .significand .result * 2 ^ shift (zeros c) (c .exponent .result)
-
-takes : (c : tie.After-exponent) → Taken (c .before .before .args .b) (radicand c) (over c / 2)
-takes c = taken (c .before .before .args .b) (c .before .significand .result) (c .exponent .result) (zeros c) (c .before .before .pre .1) (c .before .significand .ensures) (c .exponent .ensures) (leads (c .before))
-
-significand-requires : tie.Need-significand-requires
-significand-requires c κs = search needs
+-- ---- the normal numbers
+high-number : (b : ℕ) → 8388608 ≤ b → b < 2139095040 → let e = b / 8388608 - 1 in square binary32 (ofBits binary32 b) ≡ (b - e * 8388608) * 2 ^ (23 + (e + 126))
+high-number b h l =
+    let e = b / 8388608 - 1 in
+    let d = b % 8388608 in
+    let pattern : suc e * 8388608 + d ≡ b = omega arith in
+    let digits : 8388608 + d ≡ b - e * 8388608 = omega arith in
+    ap (λ (m : ℕ). square binary32 (ofBits binary32 m)) (sym pattern)
+    ∙ high-square binary32 e d (23 + (e + 126)) (omega arith) (omega arith) (omega arith)
+    ∙ ap (λ (m : ℕ). m * 2 ^ (23 + (e + 126))) digits
 
 sub-z : tie.Need-sub-z
 sub-z c = leads c .enough
 
-exponent-requires : tie.Need-exponent-requires
-exponent-requires c κs = search needs
+shl-root-of : tie.Need-shl-root-of
+shl-root-of c = omega (arith, leads c .most)
 
-add-j : tie.Need-add-j
-add-j c = omega (arith, far c)
+sub-root-of : tie.Need-sub-root-of
+sub-root-of c = omega (arith, leads c .most)
 
-sub-j : tie.Need-sub-j
-sub-j c = omega (arith, leads (c .before) .most)
+root-of-requires : tie.Need-root-of-requires
+root-of-requires c κs = rw (whole c) (leads c .low-end, leads c .high-end, omega arith)
 
-cast-n : tie.Need-cast-n
-cast-n c = search needs
+sub-e : tie.Need-sub-e
+sub-e c = search needs
 
-add-n : tie.Need-add-n
-add-n c = omega (arith, leads (c .before) .most)
+mul-root-of : tie.Need-mul-root-of
+mul-root-of c = search needs
 
-add-n-2 : tie.Need-add-n-2
-add-n-2 c = omega (arith, leads (c .before) .most)
+sub-root-of-2 : tie.Need-sub-root-of-2
+sub-root-of-2 c = search needs
 
-cast-n-2 : tie.Need-cast-n-2
-cast-n-2 c = omega (arith, leads (c .before) .most)
+add-root-of : tie.Need-add-root-of
+add-root-of c = search needs
 
-shl-n : tie.Need-shl-n
-shl-n c = omega (arith, leads (c .before) .most)
-
-nearest-root-requires : tie.Need-nearest-root-requires
-nearest-root-requires c κs =
-    let g = takes c in
-    subst (λ (n : ℕ). (0 < n) × (n < 2 ^ 48)) (sym (unwrapped (radicand c) (g .few))) (between (radicand c) (g .many) (g .few))
-  where
-    between : (n : ℕ) → 70368744177664 ≤ n → n ≤ 281474959933440 → (0 < n) × (n < 2 ^ 48)
-    between n a b = (omega arith, omega arith)
-
-nearest : (c : tie.After-nearest-root) → Rounded (radicand (c .before)) (c .nearest-root .result)
-nearest c = subst (λ (n : ℕ). Rounded n (c .nearest-root .result)) (unwrapped (radicand (c .before)) (takes (c .before) .few)) (c .nearest-root .ensures)
-
-small : (c : tie.After-nearest-root) → c .nearest-root .result < 16777216
-small c = digits (radicand (c .before)) (c .nearest-root .result) (takes (c .before) .many) (takes (c .before) .few) (nearest c) .high
-
-mul-result : tie.Need-mul-result
-mul-result c = omega (arith, far (c .before))
-
-cast-result : tie.Need-cast-result
-cast-result c = omega (arith, small c)
-
-add-result : tie.Need-add-result
-add-result c = omega (arith, far (c .before), small c)
+root-of-requires-2 : tie.Need-root-of-requires-2
+root-of-requires-2 c κs = search needs
 
 returns : tie.Need-returns
-returns c = put (c .before .before .before .args .b) (radicand (c .before)) (over (c .before) / 2) (c .nearest-root .result) (omega (arith, far (c .before))) (takes (c .before)) (nearest c)
+returns c = (c .root-of .ensures .0, c .root-of .ensures .1 (ofBits binary32 (c .before .before .args .b)) (low-number (c .before)))
+
+returns-2 : tie.Need-returns-2
+returns-2 c = (c .root-of2 .ensures .0, c .root-of2 .ensures .1 (ofBits binary32 (c .before .before .args .b)) (high-number (c .before .before .args .b) (c .before .if1 .left) (c .before .before .pre .1)))
 
 pub root-bits-spec : {M : Type 1} → statement M
-root-bits-spec =
-    tie.close
-    (tie.spec
-    significand-requires
-    sub-z
-    exponent-requires
-    add-j
-    sub-j
-    cast-n
-    add-n
-    add-n-2
-    cast-n-2
-    shl-n
-    nearest-root-requires
-    mul-result
-    cast-result
-    add-result
-    returns)
+root-bits-spec = tie.close (tie.spec sub-z shl-root-of sub-root-of root-of-requires sub-e mul-root-of sub-root-of-2 add-root-of root-of-requires-2 returns returns-2)
