@@ -54,7 +54,8 @@ pub struct Edge {
     pub corner: usize,
 }
 
-/// `number` is 0, or 5 where no two answers agree; `odd` is the channel that differs, or 0.
+/// `number` is 0, or 5 where no two answers agree; `odd` is the channel that differs, or 0. With three equal answers,
+/// whatever they hold, both are 0.
 #[repr(C)]
 #[derive(Copy, Clone, Debug, PartialEq)]
 pub struct Voted {
@@ -156,7 +157,8 @@ pub fn run(pos12: Pose, g1: Shape, g2: Shape, dir: Vector, max_dist: f32, exact:
     }
 }
 
-/// Two out of three.
+/// Two out of three. Answers agree when outcome and counts are the same and the bits of each float, all NaNs counting as
+/// one: a NaN agrees with a NaN, and -0 not with +0. (`==` on two answers compares floats as Rust does.)
 pub fn vote(a: Answer, b: Answer, c: Answer) -> Voted {
     separation_vote(a, b, c)
 }

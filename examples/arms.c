@@ -1,6 +1,7 @@
 /* Two links of two arms: how far apart are they? Prints the line that the program prints for the same case. */
 #include "separation.h"
 
+#include <math.h>
 #include <stdio.h>
 #include <string.h>
 
@@ -50,7 +51,7 @@ static void print_answer(int number, separation_answer a)
     printf("\n");
 }
 
-/* Three channels agree, so the vote names none. */
+/* Three channels agree, so the vote names none, also where all answer a NaN; -0 does not pass for +0. */
 int main(void)
 {
     separation_answer apart = run(1), meet = run(0.5f);
@@ -60,5 +61,11 @@ int main(void)
     printf("cases 2\n");
     separation_voted voted = separation_vote(meet, run(0.5f), run(0.5f));
     separation_voted odd = separation_vote(meet, apart, meet);
-    return voted.number == 0 && voted.odd == 0 && odd.number == 0 && odd.odd == 2 ? 0 : 1;
+    separation_answer none = meet, plus = meet, minus = meet;
+    none.normal.x = NAN;
+    plus.normal.x = 0.0f;
+    minus.normal.x = -0.0f;
+    separation_voted same = separation_vote(none, none, none), zeros = separation_vote(plus, minus, plus);
+    return voted.number == 0 && voted.odd == 0 && odd.number == 0 && odd.odd == 2
+        && same.number == 0 && same.odd == 0 && zeros.number == 0 && zeros.odd == 2 ? 0 : 1;
 }

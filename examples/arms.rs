@@ -51,4 +51,8 @@ fn main() {
     println!("separation 1\n{}\n{}\ncases 2", line(1, apart), line(2, meet));
     let (agreed, odd) = (vote(meet, links(0.5), links(0.5)), vote(meet, apart, meet));
     assert_eq!((agreed.number, agreed.odd, odd.number, odd.odd), (0, 0, 0, 2));
+    // three NaNs agree; -0 does not pass for +0
+    let with = |x: f32| Answer { normal: Vector { x, ..meet.normal }, ..meet };
+    let (same, zeros) = (vote(with(f32::NAN), with(f32::NAN), with(f32::NAN)), vote(with(0.0), with(-0.0), with(0.0)));
+    assert_eq!((same.number, same.odd, zeros.number, zeros.odd), (0, 0, 0, 2));
 }

@@ -59,7 +59,8 @@ typedef struct {
     size_t face, corner;
 } separation_edge;
 
-/* number: 0, or 5 where no two answers agree. odd: the number of the channel that differs, or 0. */
+/* number: 0, or 5 where no two answers agree. odd: the number of the channel that differs, or 0.
+ * With three equal answers, whatever they hold, both are 0. */
 typedef struct {
     uint32_t number;
     size_t odd;
@@ -84,7 +85,8 @@ separation_answer separation_run(
     size_t *heap_face, size_t heap_face_length,
     float *heap_key, size_t heap_key_length);
 
-/* Two out of three. */
+/* Two out of three. Answers agree when outcome and counts are the same and the bits of each float, all NaNs counting
+ * as one: a NaN agrees with a NaN, and -0 not with +0. */
 separation_voted separation_vote(separation_answer a, separation_answer b, separation_answer c);
 
 #endif

@@ -3,6 +3,7 @@
 ghost use mathlib.Core.Path.{_≡_};
 ghost use Rattle.vote.specs.Vote.{voteOf};
 ghost use Prim.Native.Nat.{_≤_};
+ghost use lib.Ieee.{binary32};
 ghost use lib.ListN.{length, take};
 ghost use Rattle.epa.specs.Final.{finalBy};
 ghost use Rattle.epa_lent.specs.Lent.{finalEdges};
@@ -162,7 +163,7 @@ pub extern "C" fn separation_run(
 // Two out of three.
 #[no_mangle]
 pub extern "C" fn separation_vote(a: Answer, b: Answer, c: Answer) -> Voted
-    ensures { λ r. ⌜ r ≡ votedOf (voteOf a b c) ⌝ }
+    ensures { λ r. ⌜ r ≡ votedOf (voteOf binary32 a b c) ⌝ }
 {
     voted_of(vote::vote(a, b, c))
 }

@@ -1,29 +1,42 @@
--- The vote of document 01, "Case file and vote": when two answers agree, and what the answers of three channels give. Definitions only.
+-- The vote of document 01, "Case file and vote", with agreement as document 02 has it (ticket 3): when two answers agree, and what the answers of three channels give. Definitions only.
 use Prim.Native.Nat.{ℕ}
 use mathlib.Core.Bool.{Bool, cond, _&&_}
 use lib.Dec.{eqb}
-use Rattle.vector.specs.Vector.{equalV, zeroV}
+use lib.Ieee.{Float, Format, toBits}
+use Rattle.vector.specs.Vector.{zeroV}
+use Rattle.vector.specs.declared.vec3.Vec3.{Vec3}
 use Rattle.vote.specs.declared.Counts.{Counts}
 use Rattle.vote.specs.declared.Answer.{Answer}
 use Rattle.vote.specs.declared.Verdict.{Verdict}
 use Rattle.vote.specs.declared.Verdict.the-variants.{Agreed, Refused}
 
+-- ---- when two answers agree
+
+-- Two floats agree when their bits are the same, all NaNs counting as one: `toBits` writes every NaN by the same bits, and +0 and -0 by different ones.
+unfoldable pub sameBits : Format → Float → Float → Bool
+sameBits f a b = eqb (toBits f a) (toBits f b)
+
+unfoldable pub sameBitsV : Format → Vec3 → Vec3 → Bool
+sameBitsV f a b = sameBits f (a .x) (b .x) && sameBits f (a .y) (b .y) && sameBits f (a .z) (b .z)
+
 unfoldable pub sameCounts : Counts → Counts → Bool
 sameCounts a b =
     eqb (a .expansions) (b .expansions) && eqb (a .made) (b .made) && eqb (a .live) (b .live) && eqb (a .edges) (b .edges)
 
--- Outcome and counts are the same, and each float compares equal, as IEEE 754 compares: a NaN with nothing, and -0 with 0.
-unfoldable pub agree : Answer → Answer → Bool
-agree a b =
+-- Outcome and counts are the same, and each float agrees.
+unfoldable pub agree : Format → Answer → Answer → Bool
+agree f a b =
     eqb (a .outcome) (b .outcome) && sameCounts (a .counts) (b .counts)
-    && (equalV (a .point1) (b .point1) && equalV (a .point2) (b .point2) && equalV (a .normal) (b .normal))
+    && (sameBitsV f (a .point1) (b .point1) && sameBitsV f (a .point2) (b .point2) && sameBitsV f (a .normal) (b .normal))
+
+-- ---- what three answers give
 
 -- 1 and 2 agreeing gives answer 1, else 1 and 3 gives 1, else 2 and 3 gives 2, with the odd channel's number, or 0 if 1 agrees with both
-unfoldable pub voteOf : Answer → Answer → Answer → Verdict
-voteOf a b c =
-    cond (agree a b) (Agreed a (cond (agree a c) 0 3))
-    (cond (agree a c) (Agreed a 2)
-    (cond (agree b c) (Agreed b 1) Refused))
+unfoldable pub voteOf : Format → Answer → Answer → Answer → Verdict
+voteOf f a b c =
+    cond (agree f a b) (Agreed a (cond (agree f a c) 0 3))
+    (cond (agree f a c) (Agreed a 2)
+    (cond (agree f b c) (Agreed b 1) Refused))
 
 -- ---- document 01's number and values of each case: 0 for an answer, and refusal 5 with zeros
 

@@ -1,7 +1,8 @@
 // The vote of three channels: two answers out of three that agree. What each function returns is the definition
 // of the same name in specs/Vote.antt, which carries the scope document's rule.
 ghost use mathlib.Core.Path.{_≡_};
-ghost use Rattle.vote.specs.Vote.{agree, sameCounts, voteOf};
+ghost use lib.Ieee.{binary32};
+ghost use Rattle.vote.specs.Vote.{agree, sameBits, sameBitsV, sameCounts, voteOf};
 use vector::Vec3;
 
 // The counts of a run: expansions completed, faces made, faces live at the end, most edges in one pass.
@@ -39,20 +40,32 @@ fn same_counts(a: Counts, b: Counts) -> bool
     (a.expansions == b.expansions) & (a.made == b.made) & (a.live == b.live) & (a.edges == b.edges)
 }
 
-// Whether outcome and counts are the same and each float compares equal: a NaN never does, and -0 equals 0.
-pub fn agree(a: Answer, b: Answer) -> bool
-    ensures { λ r. ⌜ r ≡ agree a b ⌝ }
+// Whether the bits are the same, all NaNs counting as one, as `to_bits` writes them. Unlike `==`, a NaN agrees with a NaN,
+// and -0 not with +0.
+fn same_bits(a: f32, b: f32) -> bool
+    ensures { λ r. ⌜ r ≡ sameBits binary32 a b ⌝ }
 {
-    let p = a.point1;
-    let q = a.point2;
-    let n = a.normal;
-    let floats = p.equals(b.point1) & q.equals(b.point2) & n.equals(b.normal);
+    number::to_bits(a) == number::to_bits(b)
+}
+
+fn same_vectors(a: Vec3, b: Vec3) -> bool
+    ensures { λ r. ⌜ r ≡ sameBitsV binary32 a b ⌝ }
+{
+    same_bits(a.x, b.x) & same_bits(a.y, b.y) & same_bits(a.z, b.z)
+}
+
+// Whether outcome and counts are the same and each float agrees.
+pub fn agree(a: Answer, b: Answer) -> bool
+    ensures { λ r. ⌜ r ≡ agree binary32 a b ⌝ }
+{
+    let points = same_vectors(a.point1, b.point1) & same_vectors(a.point2, b.point2);
+    let floats = points & same_vectors(a.normal, b.normal);
     (a.outcome == b.outcome) & same_counts(a.counts, b.counts) & floats
 }
 
 // The answers of channels 1, 2 and 3: the first of 1 and 2, 1 and 3, 2 and 3 that agree decides.
 pub fn vote(a: Answer, b: Answer, c: Answer) -> Verdict
-    ensures { λ r. ⌜ r ≡ voteOf a b c ⌝ }
+    ensures { λ r. ⌜ r ≡ voteOf binary32 a b c ⌝ }
 {
     let first_last = agree(a, c);
     if agree(a, b) {
