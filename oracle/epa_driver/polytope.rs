@@ -60,7 +60,7 @@ unsafe extern "C" {
 }
 
 /// The branches in the order of `way`.
-const WAYS: [&str; 18] = [
+const WAYS: [&str; 17] = [
     "single point",
     "converged",
     "stuck",
@@ -69,7 +69,6 @@ const WAYS: [&str; 18] = [
     "heap empty",
     "key refused at the start",
     "no starting face holds",
-    "nothing queued",
     "empty silhouette",
     "all silhouette faces deleted",
     "key refused later",

@@ -8,18 +8,16 @@ use Rattle.vector.specs.declared.pose.Pose.{Pose}
 use Rattle.shape.specs.declared.shape.Shape.{Shape}
 use Rattle.simplex.specs.declared.simplex.VoronoiSimplex.{VoronoiSimplex}
 use Rattle.polytope.specs.declared.types.Rooms.{Rooms}
-use Rattle.polytope.specs.declared.types.Step.{Step}
-use Rattle.polytope.specs.declared.types.Step.the-variants.{Onward, Ended}
-use Rattle.polytope.specs.Polytope.{stateOf, stepOut, noneYet, roomsBy, roomsOf, fresh, epa, runEpa, closestPoints}
+use Rattle.polytope.specs.declared.types.Finish.{Finish}
+use Rattle.polytope.specs.Polytope.{stateOf, finishOut, noneYet, roomsBy, roomsOf, fresh, epa, runEpa, closestPoints}
 use Rattle.pushes.specs.Contracts.{worldBy, heapRoom}
 use Rattle.run.specs.Contracts.{Runs}
 use Rattle.epa.specs.Contracts.{answerAt}
 use Rattle.epa.specs.Final.{finalBy, finalOf, penetration}
 use Rattle.epa.specs.declared.types.Answer.{Answer}
 
-final-by : (v : List Float) (p a : List ℕ) (n : List Float) (d ef ec hf : List ℕ) (hk : List Float) (r : Step) → finalBy (answerAt d r) v p a n d ef ec hf hk ≡ finalOf (stepOut (λ c. stateOf v p a n d ef ec hf hk c) r)
-final-by v p a n d ef ec hf hk (Onward x) = refl
-final-by v p a n d ef ec hf hk (Ended e x) = refl
+final-by : (v : List Float) (p a : List ℕ) (n : List Float) (d ef ec hf : List ℕ) (hk : List Float) (r : Finish) → finalBy (answerAt d r) v p a n d ef ec hf hk ≡ finalOf (finishOut (λ c. stateOf v p a n d ef ec hf hk c) r)
+final-by v p a n d ef ec hf hk r = refl
 
 -- the rooms, by the lengths of the lists
 rooms-are : (v : List Float) (p a : List ℕ) (n : List Float) (d ef ec hf : List ℕ) (hk : List Float) (rooms : Rooms)
@@ -29,7 +27,7 @@ rooms-are v p a n d ef ec hf hk rooms is = rw is
 
 pub final : (m : Pose) (g1 g2 : Shape) (rooms : Rooms) (x : VoronoiSimplex) (v : List Float) (p a : List ℕ) (n : List Float) (d ef ec hf : List ℕ) (hk : List Float)
     → rooms ≡ roomsBy (length v) (length p) (length a) (length n) (length d) (length ef) (length ec) (length hf) (length hk)
-    → (v' : List Float) (p' a' : List ℕ) (n' : List Float) (d' ef' ec' hf' : List ℕ) (hk' : List Float) (r : Step) (y : Answer)
+    → (v' : List Float) (p' a' : List ℕ) (n' : List Float) (d' ef' ec' hf' : List ℕ) (hk' : List Float) (r : Finish) (y : Answer)
     → Runs m g1 g2 rooms x v p a n d ef ec hf hk v' p' a' n' d' ef' ec' hf' hk' r → y ≡ answerAt d' r → finalBy y v' p' a' n' d' ef' ec' hf' hk' ≡ penetration m g1 g2 x v p a n d ef ec hf hk
 unfolding closestPoints runEpa fresh
 final m g1 g2 rooms x v p a n d ef ec hf hk is v' p' a' n' d' ef' ec' hf' hk' r y h t =

@@ -7,11 +7,10 @@ use Rattle.vector.specs.declared.pose.Pose.{Pose}
 use Rattle.shape.specs.declared.shape.Shape.{Shape}
 use Rattle.shape.specs.Support.{fromShapes}
 use Rattle.simplex.specs.declared.simplex.VoronoiSimplex.{VoronoiSimplex}
-use Rattle.polytope.specs.Polytope.{State, stateOf, Out, onward, ended, Nil, liveTo, noneYet, closestPoints}
+use Rattle.polytope.specs.Polytope.{State, stateOf, Out, onward, ended, Over, liveTo, noneYet, closestPoints}
 use Rattle.polytope.specs.declared.types.End.{End}
-use Rattle.polytope.specs.declared.types.End.the-variants.{Nothing as nothing, NoRoom as noRoom}
+use Rattle.polytope.specs.declared.types.End.the-variants.{NoRoom as noRoom}
 use Rattle.polytope.specs.declared.types.Store.{Store}
-use Rattle.polytope.specs.declared.types.Lost.the-variants.{NothingQueued as nothingQueued}
 use Rattle.epa.specs.declared.types.Counts.{Counts}
 use Rattle.epa.specs.declared.types.Answer.{Answer}
 
@@ -44,10 +43,10 @@ abbrev pub finalAt : End → State → Final Answer
 finalAt e s =
     finalBy (record { end = e; counts = countsOf s }) (s .verts .cells) (s .faces .pts) (s .faces .adj) (s .faces .nums) (s .faces .dead) (s .edged .faces) (s .edged .corners) (s .queue .faces) (s .queue .keys)
 
--- every run ends (`demand-3` of the crate `polytope`), so the second clause is never met
-abbrev pub finalOf : Out Nil → Final Answer
+-- a run only ends
+abbrev pub finalOf : Out Over → Final Answer
 finalOf (ended e s) = finalAt e s
-finalOf (onward x s) = finalAt (nothing nothingQueued) s
+finalOf (onward x s) = absurd x
 
 -- the run of two shapes, the second in a pose, from a simplex, over lent stores whose counts are not read
 abbrev pub penetrationOver : Pose → Shape → Shape → VoronoiSimplex → State → Final Answer

@@ -8,11 +8,9 @@ ghost use Rattle.epa.specs.Final.{finalBy, penetration};
 
 mod types;
 
-use polytope::End;
-use polytope::Lost;
+use polytope::Finish;
 use polytope::Rooms;
 use polytope::Run;
-use polytope::Step;
 use run::run_epa;
 use shape::Shape;
 use simplex::VoronoiSimplex;
@@ -64,19 +62,12 @@ fn counts_of(dead: &[u8], run: Run) -> Counts
 }
 
 // The answer with its counts.
-fn answer_at(dead: &[u8], step: Step) -> Answer
-    ensures { λ r. ⌜ r ≡ answerAt (now (dead .entry)) step ⌝ }
+fn answer_at(dead: &[u8], finish: Finish) -> Answer
+    ensures { λ r. ⌜ r ≡ answerAt (now (dead .entry)) finish ⌝ }
 {
-    match step {
-        Step::Ended(end, run) => Answer {
-            end,
-            counts: counts_of(dead, run),
-        },
-        Step::Onward(run) => Answer {
-            end: End::Nothing(Lost::NothingQueued),
-            counts: counts_of(dead, run),
-        },
-    }
+    let end = finish.end;
+    let counts = counts_of(dead, finish.run);
+    Answer { end, counts }
 }
 
 // `EPA::closest_points`.
@@ -108,7 +99,7 @@ pub fn closest_points(
         heap_face.len(),
         heap_key.len(),
     );
-    let step = run_epa(
+    let finish = run_epa(
         vertices,
         pts,
         adj,
@@ -124,5 +115,5 @@ pub fn closest_points(
         rooms,
         simplex,
     );
-    answer_at(dead, step)
+    answer_at(dead, finish)
 }

@@ -5,7 +5,7 @@ use Rattle.vector.specs.Vector.{zeroV}
 use Rattle.polytope.specs.declared.types.Found.{Found}
 use Rattle.polytope.specs.declared.types.Found.the-variants.{SinglePoint, Converged, Stuck, NewFaceNearer, EnoughTurns, HeapEmpty}
 use Rattle.polytope.specs.declared.types.Lost.{Lost}
-use Rattle.polytope.specs.declared.types.Lost.the-variants.{KeyAtStart, NoneHolds, NothingQueued, NoSilhouette, AllDeleted, KeyLater}
+use Rattle.polytope.specs.declared.types.Lost.the-variants.{KeyAtStart, NoneHolds, NoSilhouette, AllDeleted, KeyLater}
 use Rattle.polytope.specs.declared.types.Site.{Site}
 use Rattle.polytope.specs.declared.types.Site.the-variants.{NotASimplex, NoThirdVertex}
 use Rattle.polytope.specs.declared.types.Store.{Store}
@@ -29,20 +29,19 @@ foundWay HeapEmpty = 5
 abbrev pub lostWay : Lost → ℕ
 lostWay KeyAtStart = 6
 lostWay NoneHolds = 7
-lostWay NothingQueued = 8
-lostWay NoSilhouette = 9
-lostWay AllDeleted = 10
-lostWay KeyLater = 11
+lostWay NoSilhouette = 8
+lostWay AllDeleted = 9
+lostWay KeyLater = 10
 
 abbrev pub siteWay : Site → ℕ
-siteWay NotASimplex = 12
-siteWay NoThirdVertex = 13
+siteWay NotASimplex = 11
+siteWay NoThirdVertex = 12
 
 abbrev pub storeWay : Store → ℕ
-storeWay Vertices = 14
-storeWay Faces = 15
-storeWay Edges = 16
-storeWay Heap = 17
+storeWay Vertices = 13
+storeWay Faces = 14
+storeWay Edges = 15
+storeWay Heap = 16
 
 abbrev pub wayOf : End → ℕ
 wayOf (Answers why p1 p2 n) = foundWay why

@@ -50,10 +50,9 @@ fn lost_way(why: Lost) -> u32
     match why {
         Lost::KeyAtStart => 6,
         Lost::NoneHolds => 7,
-        Lost::NothingQueued => 8,
-        Lost::NoSilhouette => 9,
-        Lost::AllDeleted => 10,
-        Lost::KeyLater => 11,
+        Lost::NoSilhouette => 8,
+        Lost::AllDeleted => 9,
+        Lost::KeyLater => 10,
     }
 }
 
@@ -61,8 +60,8 @@ fn site_way(site: Site) -> u32
     ensures { λ r. ⌜ r ≡ siteWay site ⌝ }
 {
     match site {
-        Site::NotASimplex => 12,
-        Site::NoThirdVertex => 13,
+        Site::NotASimplex => 11,
+        Site::NoThirdVertex => 12,
     }
 }
 
@@ -70,10 +69,10 @@ fn store_way(store: Store) -> u32
     ensures { λ r. ⌜ r ≡ storeWay store ⌝ }
 {
     match store {
-        Store::Vertices => 14,
-        Store::Faces => 15,
-        Store::Edges => 16,
-        Store::Heap => 17,
+        Store::Vertices => 13,
+        Store::Faces => 14,
+        Store::Edges => 15,
+        Store::Heap => 16,
     }
 }
 

@@ -59,6 +59,5 @@ pub fn start_faces(
         g2,
         rooms,
         run,
-        tol,
     )
 }

@@ -42,7 +42,7 @@ module _ (m : Pose) (g1 g2 : Shape) (rooms : Rooms) (run : Run) (v : List Float)
   third-pushed x v' r t e g p a n d ef ec hf hk = rw (← is, t, ← e) (g p a n d ef ec hf hk)
 
 -- the two faces are made of the three vertices; they are pushed whatever the heap's room
-module _ (rooms : Rooms) (run : Run) (tol : Float) (v : List Float) (p a : List ℕ) (n : List Float) (d hf : List ℕ) (hk : List Float) (m1 m2 : Made)
+module _ (rooms : Rooms) (run : Run) (v : List Float) (p a : List ℕ) (n : List Float) (d hf : List ℕ) (hk : List Float) (m1 m2 : Made)
     (i1 : m1 ≡ faceNew binary32 (vertexAt v 0 .point) (vertexAt v 1 .point) (vertexAt v 2 .point))
     (i2 : m2 ≡ faceNew binary32 (vertexAt v 0 .point) (vertexAt v 2 .point) (vertexAt v 1 .point))
     (p1 a1 : List ℕ) (n1 : List Float) (d1 : List ℕ) (r1 : Step)
@@ -52,26 +52,26 @@ module _ (rooms : Rooms) (run : Run) (tol : Float) (v : List Float) (p a : List 
   unfolding pushFace
   in-any-room ef ec = made v ef ec hf hk
 
-  pub two-not-made : {e : End} {run1 : Run} → r1 ≡ Ended e run1 → TwoFaces rooms run tol v p a n d hf hk p1 a1 n1 d1 hf hk r1
+  pub two-not-made : {e : End} {run1 : Run} → r1 ≡ Ended e run1 → TwoFaces rooms run v p a n d hf hk p1 a1 n1 d1 hf hk r1
   unfolding twoFaces look _>>=_
   two-not-made t supp ef ec = rw (← i1, ← i2) (pair-ends _ _ _ _ _ (in-any-room ef ec) t)
 
-  pub two-made : {run1 : Run} (hf2 : List ℕ) (hk2 : List Float) (r2 : Step) → r1 ≡ Onward run1 → QueuesBoth rooms run1 tol hf hk hf2 hk2 r2 → TwoFaces rooms run tol v p a n d hf hk p1 a1 n1 d1 hf2 hk2 r2
+  pub two-made : {run1 : Run} (hf2 : List ℕ) (hk2 : List Float) (r2 : Step) → r1 ≡ Onward run1 → QueuesBoth rooms run1 hf hk hf2 hk2 r2 → TwoFaces rooms run v p a n d hf hk p1 a1 n1 d1 hf2 hk2 r2
   unfolding twoFaces look _>>=_
   two-made hf2 hk2 r2 t queued supp ef ec = rw (← i1, ← i2) (pair-goes-on _ _ _ _ _ (in-any-room ef ec) t (queued v p1 a1 n1 d1 ef ec))
 
 -- a third vertex comes first; it is pushed whatever the heap's room
-module _ (m : Pose) (g1 g2 : Shape) (rooms : Rooms) (run : Run) (tol : Float) (v : List Float) (p a : List ℕ) (n : List Float) (d hf : List ℕ) (hk : List Float) (v1 : List Float) (r1 : Step)
+module _ (m : Pose) (g1 g2 : Shape) (rooms : Rooms) (run : Run) (v : List Float) (p a : List ℕ) (n : List Float) (d hf : List ℕ) (hk : List Float) (v1 : List Float) (r1 : Step)
     (grown : WithThird m g1 g2 rooms run v v1 r1) where
   grown-in-any-room : (ef ec : List ℕ) → stepOut (λ c. stateOf v1 p a n d ef ec hf hk c) r1 ≡ doIf (eqb (run .vertices) 2) (third (worldBy m g1 g2) (heapRoom rooms hf hk)) (stateOf v p a n d ef ec hf hk run)
   unfolding third pushVertex
   grown-in-any-room ef ec = grown p a n d ef ec hf hk
 
-  pub no-third : {e : End} {run1 : Run} → r1 ≡ Ended e run1 → StartsTwo m g1 g2 rooms run tol v p a n d hf hk v1 p a n d hf hk r1
+  pub no-third : {e : End} {run1 : Run} → r1 ≡ Ended e run1 → StartsTwo m g1 g2 rooms run v p a n d hf hk v1 p a n d hf hk r1
   unfolding startTwo look _>>=_
   no-third t ef ec = ends-here _ _ _ _ (grown-in-any-room ef ec) t
 
-  pub two-started : {run1 : Run} (p2 a2 : List ℕ) (n2 : List Float) (d2 hf2 : List ℕ) (hk2 : List Float) (r2 : Step) → r1 ≡ Onward run1 → TwoFaces rooms run1 tol v1 p a n d hf hk p2 a2 n2 d2 hf2 hk2 r2
-      → StartsTwo m g1 g2 rooms run tol v p a n d hf hk v1 p2 a2 n2 d2 hf2 hk2 r2
+  pub two-started : {run1 : Run} (p2 a2 : List ℕ) (n2 : List Float) (d2 hf2 : List ℕ) (hk2 : List Float) (r2 : Step) → r1 ≡ Onward run1 → TwoFaces rooms run1 v1 p a n d hf hk p2 a2 n2 d2 hf2 hk2 r2
+      → StartsTwo m g1 g2 rooms run v p a n d hf hk v1 p2 a2 n2 d2 hf2 hk2 r2
   unfolding startTwo look _>>=_
   two-started p2 a2 n2 d2 hf2 hk2 r2 t faces ef ec = goes-on _ _ _ _ (grown-in-any-room ef ec) t (faces (fromShapes binary32 m g1 g2) ef ec)

@@ -10,12 +10,11 @@ use Rattle.vector.specs.declared.pose.Pose.{Pose}
 use Rattle.shape.specs.declared.shape.Shape.{Shape}
 use Rattle.shape.specs.declared.vertex.Vertex.{Vertex}
 use Rattle.vector.specs.Vector.{zeroF}
-use Rattle.polytope.specs.Polytope.{worldOf, stateOf, stepOut, pushFace, queueFace, twoFaces, startTwo, third, doIf, _>>_}
+use Rattle.polytope.specs.Polytope.{worldOf, stateOf, stepOut, pushFace, enqueue, twoFaces, startTwo, third, doIf, _>>_}
 use Rattle.polytope.specs.declared.types.Run.{Run}
 use Rattle.polytope.specs.declared.types.Rooms.{Rooms}
 use Rattle.polytope.specs.declared.types.Three.{Three}
 use Rattle.polytope.specs.declared.types.Made.{Made}
-use Rattle.polytope.specs.declared.types.Lost.the-variants.{KeyAtStart}
 use Rattle.polytope.specs.declared.types.Step.{Step}
 use Rattle.pushes.specs.Contracts.{listOf, worldBy, heapRoom}
 
@@ -37,20 +36,20 @@ WithThird m g1 g2 rooms run v v' r =
     (p a : List ℕ) (n : List Float) (d ef ec hf : List ℕ) (hk : List Float)
     → stepOut (λ c. stateOf v' p a n d ef ec hf hk c) r ≡ doIf (eqb (run .vertices) 2) (third (worldBy m g1 g2) rooms) (stateOf v p a n d ef ec hf hk run)
 
--- two `queueFace`, of the faces 0 and 1 by the key 0
-abbrev pub QueuesBoth : Rooms → Run → Float → List ℕ → List Float → List ℕ → List Float → Step → Type 0
-QueuesBoth rooms run tol hf hk hf' hk' r =
+-- two `enqueue`, of the faces 0 and 1 by the key 0
+abbrev pub QueuesBoth : Rooms → Run → List ℕ → List Float → List ℕ → List Float → Step → Type 0
+QueuesBoth rooms run hf hk hf' hk' r =
     (v : List Float) (p a : List ℕ) (n : List Float) (d ef ec : List ℕ)
-    → stepOut (λ c. stateOf v p a n d ef ec hf' hk' c) r ≡ (queueFace (heapRoom rooms hf hk) KeyAtStart tol 0 zeroF >> queueFace (heapRoom rooms hf hk) KeyAtStart tol 1 zeroF) (stateOf v p a n d ef ec hf hk run)
+    → stepOut (λ c. stateOf v p a n d ef ec hf' hk' c) r ≡ (enqueue (heapRoom rooms hf hk) 0 zeroF >> enqueue (heapRoom rooms hf hk) 1 zeroF) (stateOf v p a n d ef ec hf hk run)
 
 -- `twoFaces`
-abbrev pub TwoFaces : Rooms → Run → Float → List Float → List ℕ → List ℕ → List Float → List ℕ → List ℕ → List Float → List ℕ → List ℕ → List Float → List ℕ → List ℕ → List Float → Step → Type 0
-TwoFaces rooms run tol v p a n d hf hk p' a' n' d' hf' hk' r =
+abbrev pub TwoFaces : Rooms → Run → List Float → List ℕ → List ℕ → List Float → List ℕ → List ℕ → List Float → List ℕ → List ℕ → List Float → List ℕ → List ℕ → List Float → Step → Type 0
+TwoFaces rooms run v p a n d hf hk p' a' n' d' hf' hk' r =
     (supp : Vec3 → Vertex) (ef ec : List ℕ)
-    → stepOut (λ c. stateOf v p' a' n' d' ef ec hf' hk' c) r ≡ twoFaces (worldOf binary32 supp) (heapRoom rooms hf hk) tol (stateOf v p a n d ef ec hf hk run)
+    → stepOut (λ c. stateOf v p' a' n' d' ef ec hf' hk' c) r ≡ twoFaces (worldOf binary32 supp) (heapRoom rooms hf hk) (stateOf v p a n d ef ec hf hk run)
 
 -- `startTwo`
-abbrev pub StartsTwo : Pose → Shape → Shape → Rooms → Run → Float → List Float → List ℕ → List ℕ → List Float → List ℕ → List ℕ → List Float → List Float → List ℕ → List ℕ → List Float → List ℕ → List ℕ → List Float → Step → Type 0
-StartsTwo m g1 g2 rooms run tol v p a n d hf hk v' p' a' n' d' hf' hk' r =
+abbrev pub StartsTwo : Pose → Shape → Shape → Rooms → Run → List Float → List ℕ → List ℕ → List Float → List ℕ → List ℕ → List Float → List Float → List ℕ → List ℕ → List Float → List ℕ → List ℕ → List Float → Step → Type 0
+StartsTwo m g1 g2 rooms run v p a n d hf hk v' p' a' n' d' hf' hk' r =
     (ef ec : List ℕ)
-    → stepOut (λ c. stateOf v' p' a' n' d' ef ec hf' hk' c) r ≡ startTwo (worldBy m g1 g2) (heapRoom rooms hf hk) tol (stateOf v p a n d ef ec hf hk run)
+    → stepOut (λ c. stateOf v' p' a' n' d' ef ec hf' hk' c) r ≡ startTwo (worldBy m g1 g2) (heapRoom rooms hf hk) (stateOf v p a n d ef ec hf hk run)

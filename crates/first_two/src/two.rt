@@ -6,15 +6,14 @@ ghost use Rattle.polytope.specs.Polytope.{across};
 ghost use Rattle.first_two.specs.Contracts.{Thirds, WithThird, QueuesBoth, TwoFaces, StartsTwo};
 use crate::pairs::push_two;
 use polytope::End;
-use polytope::Lost;
 use polytope::Rooms;
 use polytope::Run;
 use polytope::Site;
 use polytope::Step;
 use polytope::Three;
+use pushes::enqueue;
 use pushes::made_of;
 use pushes::push_vertex;
-use pushes::queue_face;
 use shape::Shape;
 use shape::from_shapes;
 use stores::vertex_at;
@@ -62,39 +61,15 @@ fn with_third(
     Step::Onward(run)
 }
 
-// Both faces are queued, in order; the Rust gives each the key 0, however far it lies.
-fn queue_both(
-    heap_face: &mut [usize],
-    heap_key: &mut [f32],
-    rooms: Rooms,
-    run: Run,
-    tol: f32,
-) -> Step
-    ensures { λ r. ⌜ QueuesBoth rooms run tol (now («heap_face» .entry)) (now («heap_key» .entry)) (now («heap_face» .exit)) (now («heap_key» .exit)) r ⌝ }
+// Both faces are queued, in order; the Rust gives each the key 0, however far it lies, which no tolerance refuses.
+fn queue_both(heap_face: &mut [usize], heap_key: &mut [f32], rooms: Rooms, run: Run) -> Step
+    ensures { λ r. ⌜ QueuesBoth rooms run (now («heap_face» .entry)) (now («heap_key» .entry)) (now («heap_face» .exit)) (now («heap_key» .exit)) r ⌝ }
 {
-    let s1 = queue_face(
-        heap_face,
-        heap_key,
-        rooms,
-        run,
-        Lost::KeyAtStart,
-        tol,
-        0,
-        0.0,
-    );
+    let s1 = enqueue(heap_face, heap_key, rooms, run, 0, 0.0);
     let Step::Onward(run1) = s1 else {
         return s1;
     };
-    queue_face(
-        heap_face,
-        heap_key,
-        rooms,
-        run1,
-        Lost::KeyAtStart,
-        tol,
-        1,
-        0.0,
-    )
+    enqueue(heap_face, heap_key, rooms, run1, 1, 0.0)
 }
 
 // Two faces, back to back.
@@ -108,9 +83,8 @@ fn two_faces(
     heap_key: &mut [f32],
     rooms: Rooms,
     run: Run,
-    tol: f32,
 ) -> Step
-    ensures { λ r. ⌜ TwoFaces rooms run tol (now (vertices .entry)) (now (pts .entry)) (now (adj .entry)) (now (nums .entry)) (now (dead .entry)) (now («heap_face» .entry)) (now («heap_key» .entry)) (now (pts .exit)) (now (adj .exit)) (now (nums .exit)) (now (dead .exit)) (now («heap_face» .exit)) (now («heap_key» .exit)) r ⌝ }
+    ensures { λ r. ⌜ TwoFaces rooms run (now (vertices .entry)) (now (pts .entry)) (now (adj .entry)) (now (nums .entry)) (now (dead .entry)) (now («heap_face» .entry)) (now («heap_key» .entry)) (now (pts .exit)) (now (adj .exit)) (now (nums .exit)) (now (dead .exit)) (now («heap_face» .exit)) (now («heap_key» .exit)) r ⌝ }
 {
     let m1 = made_of(vertices, 0, 1, 2);
     let m2 = made_of(vertices, 0, 2, 1);
@@ -135,7 +109,7 @@ fn two_faces(
     let Step::Onward(run1) = made else {
         return made;
     };
-    queue_both(heap_face, heap_key, rooms, run1, tol)
+    queue_both(heap_face, heap_key, rooms, run1)
 }
 
 // Two or three vertices: two faces.
@@ -152,9 +126,8 @@ pub fn start_two(
     g2: Shape,
     rooms: Rooms,
     run: Run,
-    tol: f32,
 ) -> Step
-    ensures { λ r. ⌜ StartsTwo pos12 g1 g2 rooms run tol (now (vertices .entry)) (now (pts .entry)) (now (adj .entry)) (now (nums .entry)) (now (dead .entry)) (now («heap_face» .entry)) (now («heap_key» .entry)) (now (vertices .exit)) (now (pts .exit)) (now (adj .exit)) (now (nums .exit)) (now (dead .exit)) (now («heap_face» .exit)) (now («heap_key» .exit)) r ⌝ }
+    ensures { λ r. ⌜ StartsTwo pos12 g1 g2 rooms run (now (vertices .entry)) (now (pts .entry)) (now (adj .entry)) (now (nums .entry)) (now (dead .entry)) (now («heap_face» .entry)) (now («heap_key» .entry)) (now (vertices .exit)) (now (pts .exit)) (now (adj .exit)) (now (nums .exit)) (now (dead .exit)) (now («heap_face» .exit)) (now («heap_key» .exit)) r ⌝ }
 {
     let grown = with_third(vertices, pos12, g1, g2, rooms, run);
     let Step::Onward(run1) = grown else {
@@ -170,6 +143,5 @@ pub fn start_two(
         heap_key,
         rooms,
         run1,
-        tol,
     )
 }

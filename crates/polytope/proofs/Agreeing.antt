@@ -2,7 +2,7 @@
 use mathlib.Core.Path.{_≡_, refl, sym, ap, subst}
 use Prim.Native.Nat.{ℕ, _<_, _≤_}
 use native.Mathlib.Omega.{arith}
-use Rattle.polytope.specs.Polytope.{World, State, Rooms, VoronoiSimplex, End, noRoom, Store, theVerts, theFaces, theEdges, theHeap, Out, onward, ended, Nil, live, fresh, roomsOf, runEpa}
+use Rattle.polytope.specs.Polytope.{World, State, Rooms, VoronoiSimplex, End, noRoom, Store, theVerts, theFaces, theEdges, theHeap, Out, onward, ended, Over, live, fresh, roomsOf, runEpa}
 use Rattle.polytope.specs.Bounds.{roomFor, suffices, Ends, facesAtStart}
 use Rattle.polytope.specs.Same.{Same, Short, short, Agreed, firstShort, secondShort, alike, SameEnd, AtLeast, Equivalent, equal, enough}
 use Rattle.polytope.proofs.Start.{empty-fresh, demand-3, never-short}
@@ -60,6 +60,6 @@ pub record Ran (w : World) (x : VoronoiSimplex) (s : State) : Type 0 where
 pub runs : (w : World) (x : VoronoiSimplex) (s : State) → Ran w x s
 runs w x s = by (runEpa w x s) refl (demand-3 w x s)
   where
-    by : (o : Out Nil) → runEpa w x s ≡ o → Ends (facesAtStart x) (roomsOf s) o → Ran w x s
+    by : (o : Out Over) → runEpa w x s ≡ o → Ends (facesAtStart x) (roomsOf s) o → Ran w x s
     by (onward a t) q h = absurd h
     by (ended e t) q h = record { end = e; stores = t; ran = q }

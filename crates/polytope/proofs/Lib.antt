@@ -6,6 +6,7 @@ pub mod Walks
 pub mod Heaps
 pub mod Sizes
 pub mod Steps
+pub mod Tolerance
 pub mod Moves
 pub mod Growth
 pub mod Turns

@@ -9,8 +9,8 @@ use lib.Ieee.{Float}
 use Rattle.shape.specs.declared.vertex.Vertex.{Vertex}
 use Rattle.heap.specs.Heap.{Entry}
 use Rattle.polytope.specs.Walk.{Walked, walked, edges, facing, passOf}
-use Rattle.polytope.specs.Polytope.{World, State, Rooms, Made, Turn, Best, VoronoiSimplex, Found, Lost, WalkAnswer, Done, NoRoom, Site, End, answers, nothing, panics, noRoom, Act, ended, Nil, _>>=_, _>>_, look, put, pure, ok, stopIf, doIf, branch, liveTo, live, vertexAt, pointAt, firstFar, meshOf, pushVertex, pushFace, queueFace, queueStart, fourFaces, queueFour, startFour, third, twoFaces, startTwo, second, bootstrap, pushPoints, startVertices, startFaces, answerOf, answer, popEntry, popLive, delete, passed, silhouette, link, queueNew, growAt, grow, growAll, clearEdges, closeRing, regrow, expand, advance, turn, turnIf, complete, nextTurn, turns, expansions, begin, epa, fresh, roomsOf, runEpa}
-use Rattle.polytope.proofs.Steps.{Meets, goes, ends, meets-bind, meets-then, meets-look, meets-put, meets-pure, meets-ok, meets-stop, meets-stopIf, meets-doIf, meets-branch, meets-link, meets-face, meets-queue, meets-vertex}
+use Rattle.polytope.specs.Polytope.{World, State, Rooms, Made, Turn, Best, VoronoiSimplex, Found, Lost, WalkAnswer, Done, NoRoom, Site, End, answers, nothing, panics, noRoom, Act, ended, Nil, _>>=_, _>>_, look, put, pure, ok, stopIf, doIf, branch, liveTo, live, vertexAt, pointAt, firstFar, meshOf, pushVertex, pushFace, enqueue, queueFace, queueStart, fourFaces, queueFour, startFour, third, twoFaces, startTwo, second, bootstrap, pushPoints, startVertices, startFaces, answerOf, answer, popEntry, popLive, delete, passed, silhouette, link, queueNew, growAt, grow, growAll, clearEdges, closeRing, regrow, expand, advance, turn, turnIf, complete, nextTurn, turns, expansions, begin, epa, fresh, roomsOf, runEpa}
+use Rattle.polytope.proofs.Steps.{Meets, goes, ends, meets-bind, meets-then, meets-look, meets-put, meets-pure, meets-ok, meets-stop, meets-stopIf, meets-doIf, meets-branch, meets-link, meets-face, meets-enqueue, meets-queue, meets-vertex}
 
 -- no face, no edge, no entry of the heap, no expansion
 pub record Unbegun (s : State) : Type 0 where
@@ -108,6 +108,9 @@ calm-vertex r v = record { from = λ s. meets-vertex Quiet Any r v s (λ _. tt) 
 calm-face : (r : Rooms) (ps ns : List ℕ) (m : Made) → Calm (pushFace r ps ns m)
 calm-face r ps ns m = record { from = λ s. meets-face Quiet Any r ps ns m s (λ _. tt) (λ _. tt) }
 
+calm-enqueue : (r : Rooms) (i : ℕ) (key : Float) → Calm (enqueue r i key)
+calm-enqueue r i key = record { from = λ s. meets-enqueue Quiet Any r i key s (λ _. tt) (λ _. tt) }
+
 calm-queue : (r : Rooms) (why : Lost) (tol : Float) (i : ℕ) (key : Float) → Calm (queueFace r why tol i key)
 calm-queue r why tol i key = record { from = λ s. meets-queue Quiet Any r why tol i key s tt (λ _. tt) (λ _. tt) }
 
@@ -145,24 +148,24 @@ module _ (w : World) (r : Rooms) where
       (calm-look _ λ t.
       calm-then _ _ (calm-fourFaces _ _ _ _) (calm-queueFour tol _ _ _ _))
 
-  calm-twoFaces : (tol : Float) → Calm (twoFaces w r tol)
+  calm-twoFaces : Calm (twoFaces w r)
   unfolding twoFaces
-  calm-twoFaces tol =
+  calm-twoFaces =
       calm-look _ λ t.
       calm-then _ _ (calm-face r _ _ _)
       (calm-then _ _ (calm-face r _ _ _)
-      (calm-then _ _ (calm-queue r _ tol 0 _) (calm-queue r _ tol 1 _)))
+      (calm-then _ _ (calm-enqueue r 0 _) (calm-enqueue r 1 _)))
 
   -- the panic of the third vertex is before the two faces
-  quiet-startTwo : (tol : Float) (s : State) → Unbegun s → Meets Any Quiet (startTwo w r tol s)
+  quiet-startTwo : (s : State) → Unbegun s → Meets Any Quiet (startTwo w r s)
   unfolding startTwo
-  quiet-startTwo tol s h =
+  quiet-startTwo s h =
       meets-look Quiet _ _ s
-      (meets-then Quiet Still _ _ _ s (meets-doIf Quiet _ _ _ s (λ _. still-third w r s h) (λ _. h)) λ _ t _. calm-twoFaces tol .from t)
+      (meets-then Quiet Still _ _ _ s (meets-doIf Quiet _ _ _ s (λ _. still-third w r s h) (λ _. h)) λ _ t _. calm-twoFaces .from t)
 
   quiet-startFaces : (dim : ℕ) (tol : Float) (s : State) → Unbegun s → Meets Any Quiet (startFaces w r dim tol s)
   unfolding startFaces
-  quiet-startFaces dim tol s h = meets-branch Quiet _ _ _ _ s (λ _. calm-startFour tol .from s) (λ _. quiet-startTwo tol s h)
+  quiet-startFaces dim tol s h = meets-branch Quiet _ _ _ _ s (λ _. calm-startFour tol .from s) (λ _. quiet-startTwo s h)
 
   -- ---- an expansion
 
@@ -258,7 +261,7 @@ module _ (w : World) (r : Rooms) where
 
   calm-expansions : (tol : Float) → Calm (expansions w r tol)
   unfolding expansions
-  calm-expansions tol = calm-look _ λ s. calm-then _ _ (calm-stopIf _ _) (calm-turns tol 101 _)
+  calm-expansions tol = calm-look _ λ s. calm-turns tol 101 _
 
   -- ---- the run
 

@@ -9,19 +9,15 @@ use lib.ListN.{getD}
 use lib.Dec.{eqb}
 use lib.Ieee.{Float}
 use Rattle.heap.specs.Heap.{Entry}
-use Rattle.polytope.specs.Polytope.{World, State, Rooms, VoronoiSimplex, Best, Out, onward, ended, Nil, Act, next, nothing, nothingQueued, _>>=_, _>>_, pure, stop, look, put, stopIf, delete, silhouette, regrow, expand, complete, answer, advance, turn, turnIf, popLive, nextTurn, turns, expansions, begin, epa, Turn, ok, doIf, branch, deadAt, link, linkedTo, pushFace, queueNew, growAt, grow, growAll}
+use Rattle.polytope.specs.Polytope.{World, State, Rooms, VoronoiSimplex, Best, Out, onward, ended, Nil, Act, next, _>>=_, _>>_, pure, stop, look, put, stopIf, delete, silhouette, regrow, expand, complete, answer, advance, turn, turnIf, popLive, nextTurn, turns, expansions, begin, epa, Turn, ok, doIf, branch, deadAt, link, linkedTo, pushFace, queueNew, growAt, grow, growAll}
 use Rattle.polytope.specs.Demand3.{Carried, opened, oneMoreTurn, runTo, rest, Passing, upToPassOf, upToPass, thePass, afterThePass, storesLeft, Joined, joinedAt, upToQueue, queueJoined}
 
 module _ (w : World) (r : Rooms) (x : VoronoiSimplex) where
   -- the start
   through-start : (o : Out Float) → next o (expansions w r) ≡ next (next o (opened w)) (rest w r 101)
-  unfolding expansions opened rest _>>=_ _>>_ look stopIf pure
+  unfolding expansions opened rest _>>=_ look pure
   through-start (ended e t) = refl
-  through-start (onward tol t) = by (eqb (t .queue .count) 0) _
-    where
-      by : (b : Bool) (g : Best) → next (stopIf b (nothing nothingQueued) t) (λ _. turns w r tol 101 g) ≡ next (next (stopIf b (nothing nothingQueued) t) (λ _. pure (record { tol = tol; best = g }))) (rest w r 101)
-      by true g = refl
-      by false g = refl
+  through-start (onward tol t) = refl
 
   -- an expansion
   through-turn : (n : ℕ) (o : Out Carried) → next o (rest w r (suc n)) ≡ next (next o (oneMoreTurn w r)) (rest w r n)

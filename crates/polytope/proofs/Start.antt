@@ -10,7 +10,7 @@ use borrow.Author.Tests.{eqb-true, eqb-false, leb-true, not-false}
 use Rattle.shape.specs.declared.vertex.Vertex.{Vertex}
 use Rattle.polytope.specs.declared.types.Made.{Made}
 use Rattle.heap.specs.Heap.{Heap, Entry, pushed}
-use Rattle.polytope.specs.Polytope.{World, State, Rooms, VoronoiSimplex, End, noRoom, Store, theVerts, theFaces, theEdges, theHeap, keyAtStart, Out, onward, ended, Nil, withFaces, withQueue, oneMore, liveTo, live, threeN, pushPoints, firstFar, second, bootstrap, queueStart, startFour, fourFaces, queueFour, third, twoFaces, startTwo, startVertices, startFaces, expansions, turns, begin, epa, fresh, roomsOf, runEpa, vertexAt}
+use Rattle.polytope.specs.Polytope.{World, State, Rooms, VoronoiSimplex, End, noRoom, Store, theVerts, theFaces, theEdges, theHeap, keyAtStart, Out, onward, ended, Nil, Over, withFaces, withQueue, oneMore, liveTo, live, threeN, enqueue, pushPoints, firstFar, second, bootstrap, queueStart, startFour, fourFaces, queueFour, third, twoFaces, startTwo, startVertices, startFaces, expansions, turns, begin, epa, fresh, roomsOf, runEpa, vertexAt}
 use Rattle.polytope.specs.Bounds.{AllIn, Good, bound, Within, Tight, Starting, without, with-all, Part, theStart, theTurns, Ended, Ends, facesAtStart, Ample, roomFor, suffices}
 use Rattle.polytope.specs.Demand3.{Carried, opened, oneMoreTurn, runTo, rest}
 use Rattle.polytope.proofs.Stages.{run-through}
@@ -24,7 +24,8 @@ use Rattle.heap.specs.Heap as Heap
 use Rattle.number.specs.Constants.{largest}
 use Rattle.vector.specs.Vector.{zeroF}
 use Rattle.simplex.specs.Simplex.{isSimplex}
-use Rattle.polytope.proofs.Steps.{Meets, meets-ends, meets-bind, meets-then, meets-look, meets-put, meets-pure, meets-ok, meets-stop, meets-stopIf, meets-doIf, meets-branch, meets-face, meets-queue, meets-vertex, meets-map}
+use Rattle.polytope.proofs.Ways.{peek-finds}
+use Rattle.polytope.proofs.Steps.{Meets, meets-ends, meets-bind, meets-then, meets-look, meets-put, meets-pure, meets-ok, meets-stop, meets-stopIf, meets-doIf, meets-branch, meets-face, meets-enqueue, meets-queue, meets-vertex, meets-map, meets-both}
 
 -- the stores with no entries
 pub record Empty (s : State) : Type 0 where
@@ -229,6 +230,12 @@ module _ (J : State → Type 0) (r : Rooms) (K : Keeps r J) where
           (λ full. end-begun v f q _ s hv (omega arith) (omega arith) h (omega (arith, h .queueFew, bound-zero f)))
           (λ room. begun-queue q s _ li lq room h)
 
+      pub meets-oneEntry : (q : ℕ) (key : Float) (i : ℕ) (s : State) → q < f → i < f → Begun f v f q s → Meets (λ _ t. Begun f v f (q + 1) t) E (enqueue r i key s)
+      meets-oneEntry q key i s lq li h =
+          meets-enqueue E _ r i key s
+          (λ full. end-begun v f q _ s hv (omega arith) (omega arith) h (omega (arith, h .queueFew, bound-zero f)))
+          (λ room. begun-queue q s _ li lq room h)
+
       begun-more : (n q : ℕ) (s : State) → Begun f v n q s → Begun f v n (q + 1) s
       begun-more n q s h = record { vertsAre = h .vertsAre; madeAre = h .madeAre; adjIn = h .adjIn; ptsIn = h .ptsIn; liveFew = h .liveFew; queueIn = h .queueIn; queueFew = omega (arith, h .queueFew); noneDone = h .noneDone; noneMost = h .noneMost; noEdges = h .noEdges; kept = h .kept }
 
@@ -238,9 +245,9 @@ module _ (J : State → Type 0) (r : Rooms) (K : Keeps r J) where
           meets-doIf E _ b _ s (λ _. meets-look E _ _ s (meets-oneKey q tol _ i s lq li h)) (λ _. begun-more f q s h)
 
   -- two faces
-  pub meets-two : (w : World) (tol : Float) (v : ℕ) (s : State) → 2 ≤ v → v ≤ 3 → Begun 2 v 0 0 s → Meets (λ _ t. Started 2 t) (Ending J theStart 2 r) (startTwo w r tol s)
+  pub meets-two : (w : World) (v : ℕ) (s : State) → 2 ≤ v → v ≤ 3 → Begun 2 v 0 0 s → Meets (λ _ t. Started 2 t) (Ending J theStart 2 r) (startTwo w r s)
   unfolding startTwo twoFaces
-  meets-two w tol v s l2 l3 h =
+  meets-two w v s l2 l3 h =
       let E = Ending J theStart 2 r in
       meets-look E _ _ s
       (meets-then E (λ _ t. Begun 2 3 0 0 t) _ _ _ s
@@ -252,8 +259,8 @@ module _ (J : State → Type 0) (r : Rooms) (K : Keeps r J) where
       (meets-oneFace 2 3 (omega arith) 0 0 1 2 1 1 1 _ s1 (omega arith) (omega arith) (omega arith) (omega arith) (omega arith) (omega arith) (omega arith) h1) λ _ s2 h2.
       meets-then E (λ _ t. Begun 2 3 2 0 t) _ _ _ s2
       (meets-oneFace 2 3 (omega arith) 1 0 2 1 0 0 0 _ s2 (omega arith) (omega arith) (omega arith) (omega arith) (omega arith) (omega arith) (omega arith) h2) λ _ s3 h3.
-      meets-then E (λ _ t. Begun 2 3 2 1 t) _ _ _ s3 (meets-oneKey 2 3 (omega arith) 0 tol _ 0 s3 (omega arith) (omega arith) h3) λ _ s4 h4.
-      meets-map E (λ _ t b. begun-ready 2 3 2 t (omega arith) (omega arith) (omega arith) b) (meets-oneKey 2 3 (omega arith) 1 tol _ 1 s4 (omega arith) (omega arith) h4)))
+      meets-then E (λ _ t. Begun 2 3 2 1 t) _ _ _ s3 (meets-oneEntry 2 3 (omega arith) 0 _ 0 s3 (omega arith) (omega arith) h3) λ _ s4 h4.
+      meets-map E (λ _ t b. begun-ready 2 3 2 t (omega arith) (omega arith) (omega arith) b) (meets-oneEntry 2 3 (omega arith) 1 _ 1 s4 (omega arith) (omega arith) h4)))
 
   -- four faces
   pub meets-fourFaces : (m1 m2 m3 m4 : Made) (s : State) → Begun 4 4 0 0 s → Meets (λ _ t. Begun 4 4 4 0 t) (Ending J theStart 4 r) (fourFaces r m1 m2 m3 m4 s)
@@ -347,10 +354,10 @@ module _ (J : State → Type 0) (r : Rooms) (K : Keeps r J) where
         let b : Begun F 4 0 0 s2 = subst (λ (n : ℕ). Begun F n 0 0 s2) (h2 .four q) (h2 .begins) in
         subst (λ (n : ℕ). Begun n 4 0 0 s2 → Meets (λ _ t. Started n t) (Ending J theStart n r) (startFour w r tol s2)) (sym (starts (eqb d 3) e)) (λ c. meets-four w _ s2 c) b)
         (λ e. let q = h2 .two (eqb-false d 3 e) in
-        subst (λ (n : ℕ). Begun n (h2 .verts) 0 0 s2 → Meets (λ _ t. Started n t) (Ending J theStart n r) (startTwo w r tol s2)) (sym (starts-two (eqb d 3) e)) (λ c. meets-two w _ (h2 .verts) s2 (q .0) (q .1) c) (h2 .begins))
+        subst (λ (n : ℕ). Begun n (h2 .verts) 0 0 s2 → Meets (λ _ t. Started n t) (Ending J theStart n r) (startTwo w r s2)) (sym (starts-two (eqb d 3) e)) (λ c. meets-two w (h2 .verts) s2 (q .0) (q .1) c) (h2 .begins))
 
   -- the start, with its faces
-  pub meets-begin : (w : World) (x : VoronoiSimplex) (s : State) → Empty s → J s → Meets (λ _ t. Started (facesAtStart x) t) (Ending J theStart (facesAtStart x) r) (begin w r x s)
+  pub meets-begin : (w : World) (x : VoronoiSimplex) (s : State) → Empty s → J s → Meets (λ _ t. Started (facesAtStart x) t × (0 < t .queue .count)) (Ending J theStart (facesAtStart x) r) (begin w r x s)
   unfolding begin
   meets-begin w x s h j =
       let f = facesAtStart x in
@@ -361,7 +368,7 @@ module _ (J : State → Type 0) (r : Rooms) (K : Keeps r J) where
       (λ e. (h, j, low-dimension x (not-false _ e)))) λ _ s1 h1.
       meets-then E (λ _ t. Early f (x .dim) t) _ _ _ s1 (meets-vertices w x (h1 .2) s1 (h1 .0) (h1 .1)) λ _ s2 h2.
       meets-look E _ _ s2
-      (meets-then E (λ _ t. Started f t) _ _ _ s2 (meets-faces w x (h1 .2) _ s2 h2) λ _ s3 h3.
+      (meets-then E (λ _ t. Started f t × (0 < t .queue .count)) _ _ _ s2 (meets-both (meets-faces w x (h1 .2) _ s2 h2) (peek-finds w r _ (x .dim) s2)) λ _ s3 h3.
       meets-pure E _ _ s3 h3)
 
   -- ---- the run, as far as k expansions
@@ -375,20 +382,9 @@ module _ (J : State → Type 0) (r : Rooms) (K : Keeps r J) where
     unfolding runTo opened
     meets-opened =
         let E = Ending J theStart f0 r in
-        meets-bind E (λ _ t. Started f0 t) _ _ _ s (meets-begin w x s h j) λ tol s2 h2.
+        meets-bind E (λ _ t. Started f0 t × (0 < t .queue .count)) _ _ _ s (meets-begin w x s h j) λ tol s2 h2.
         meets-look E _ _ s2
-        (meets-then E (λ _ t. Best-ready J r K f0 w 0 (record { face = Heap.entryAt (s2 .queue) 0 .face; bound = largest (w .format); last = zeroF }) t × (t .faces .count ≡ f0)) _ _ _ s2
-        (meets-stopIf E _ _ _ s2
-        (λ _. record {
-          end = record { from = f0; starting = with-all; turns = 0; atMost = omega arith; part = theStart; counted = refl; completed = omega (arith, h2 .0 .completed); within = h2 .0 .within; tight = tt };
-          inPart = refl;
-          kept = h2 .0 .kept;
-        })
-        (λ e. (record { ready = h2 .0; bestIn = h2 .0 .sound .queueIn .each .below 0 (nonzero (s2 .queue .count) (eqb-false _ _ e)) }, h2 .1))) λ _ s3 h3.
-        meets-pure E _ _ s3 h3)
-      where
-        nonzero : (n : ℕ) → (n ≡ 0 → ⊥) → 0 < n
-        nonzero n e = omega arith
+        (meets-pure E _ _ s2 (record { ready = h2 .0 .0; bestIn = h2 .0 .0 .sound .queueIn .each .below 0 (h2 .1) }, h2 .0 .1))
 
     -- an end in whatever part
     abbrev Either : End → State → Type 0
@@ -437,7 +433,7 @@ nothing-kept r = record {
 pub bounded : (w : World) (r : Rooms) (x : VoronoiSimplex) (s : State) → Empty s → Ends (facesAtStart x) r (epa w r x s)
 bounded w r x s h = closing (epa w r x s) (run-ends (λ _. Unit {0}) r (nothing-kept r) w x s h tt)
   where
-    closing : (o : Out Nil) → Meets (λ _ t. ⊥) (λ e t. Ended (facesAtStart x) r e t × Unit {0}) o → Ends (facesAtStart x) r o
+    closing : (o : Out Over) → Meets (λ _ t. ⊥) (λ e t. Ended (facesAtStart x) r e t × Unit {0}) o → Ends (facesAtStart x) r o
     closing (onward a t) m = m .held
     closing (ended e t) m = m .held .0
 
@@ -461,7 +457,7 @@ start-most false = omega arith
 
 -- and a store of 105 vertices, of 10,710 faces, of 206 edges or of 10,710 heap entries is never refused, whatever the others hold
 pub never-short : (w : World) (x : VoronoiSimplex) (s : State) (y : Store) → suffices y ≤ roomFor y (roomsOf s) → (t : State) → runEpa w x s ≡ ended (noRoom y) t → ⊥
-never-short w x s y enough t e = tight y enough (subst (λ (o : Out Nil). Ends (facesAtStart x) (roomsOf s) o) e (demand-3 w x s))
+never-short w x s y enough t e = tight y enough (subst (λ (o : Out Over). Ends (facesAtStart x) (roomsOf s) o) e (demand-3 w x s))
   where
     few : {n : ℕ} → Starting (facesAtStart x) n → n ≤ 4
     few without = omega arith
@@ -486,5 +482,5 @@ never-refused w x s a y t e = never-short w x s y (ample-for (roomsOf s) a y) t 
 -- at most 101 expansions complete
 pub few-complete : (w : World) (x : VoronoiSimplex) (s : State) (e : End) (t : State) → runEpa w x s ≡ ended e t → t .done ≤ 101
 few-complete w x s e t q =
-    let h : Ended (facesAtStart x) (roomsOf s) e t = subst (λ (o : Out Nil). Ends (facesAtStart x) (roomsOf s) o) q (demand-3 w x s) in
+    let h : Ended (facesAtStart x) (roomsOf s) e t = subst (λ (o : Out Over). Ends (facesAtStart x) (roomsOf s) o) q (demand-3 w x s) in
     omega (arith, h .completed, h .atMost)

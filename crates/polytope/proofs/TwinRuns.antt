@@ -16,7 +16,7 @@ use Rattle.shape.specs.declared.vertex.Vertex.{Vertex}
 use Rattle.polytope.specs.declared.types.Made.{Made}
 use Rattle.heap.specs.Heap.{Entry, entryAt}
 use Rattle.simplex.specs.Simplex.{isSimplex}
-use Rattle.polytope.specs.Polytope.{World, State, Rooms, VoronoiSimplex, Best, End, noRoom, Store, nothing, panics, noneHolds, nothingQueued, keyAtStart, notASimplex, noThirdVertex, Out, onward, ended, Act, next, _>>=_, _>>_, Nil, look, put, pure, stopIf, doIf, branch, live, threeN, pushVertex, pushFace, queueFace, normalAt, pointAt, madeOf, vertexAt, scaleOf, distTol, windsInward, pushPoints, firstFar, second, bootstrap, queueStart, startFour, fourFaces, queueFour, across, third, twoFaces, startTwo, startVertices, startFaces, expansions, turns, begin, epa, fresh, roomsOf, runEpa, closestPoints, worldOf}
+use Rattle.polytope.specs.Polytope.{World, State, Rooms, VoronoiSimplex, Best, End, noRoom, Store, nothing, panics, noneHolds, keyAtStart, notASimplex, noThirdVertex, Out, onward, ended, Act, next, _>>=_, _>>_, Nil, look, put, pure, stopIf, doIf, branch, live, threeN, pushVertex, pushFace, queueFace, normalAt, pointAt, madeOf, vertexAt, scaleOf, distTol, windsInward, pushPoints, firstFar, second, bootstrap, queueStart, startFour, fourFaces, queueFour, across, third, twoFaces, startTwo, startVertices, startFaces, expansions, turns, begin, epa, fresh, roomsOf, runEpa, closestPoints, worldOf}
 use Rattle.polytope.specs.Bounds.{theStart, Ends, facesAtStart, Ample}
 use Rattle.polytope.specs.Same.{Alike, Same}
 use Rattle.polytope.proofs.Alike.{alike-none, alike-entry}
@@ -24,8 +24,8 @@ use Rattle.polytope.proofs.Moves.{withExchange}
 use Rattle.polytope.proofs.Steps.{Meets, goes, ends, meets-doIf, meets-stopIf}
 use Rattle.polytope.proofs.Growth.{Ready, Ending}
 use Rattle.polytope.proofs.Turns.{Best-ready}
-use Rattle.polytope.proofs.Start.{Empty, Begun, Early, starts, starts-two, low-dimension, begun, begun-ready, meets-points, meets-third, meets-oneFace, meets-oneKey, meets-queueStart, meets-fourFaces, meets-vertices, meets-faces, meets-begin, nothing-kept, empty-fresh}
-use Rattle.polytope.proofs.Twins.{Fits, fits-fresh, same-vertex, same-point, same-face-normal, same-made, same-live, same-queue-count, Twin, twin-exchange, Twins, both-on, twins-bind, twins-then, twins-look, twins-pure, twins-stop, twins-put, twins-ok, twins-check, twins-stopIf, twins-doIf, twins-branch, twins-vertex, twins-face, twins-queue}
+use Rattle.polytope.proofs.Start.{Empty, Begun, Early, starts, starts-two, low-dimension, begun, begun-ready, meets-points, meets-third, meets-oneFace, meets-oneEntry, meets-queueStart, meets-fourFaces, meets-vertices, meets-faces, meets-begin, nothing-kept, empty-fresh}
+use Rattle.polytope.proofs.Twins.{Fits, fits-fresh, same-vertex, same-point, same-face-normal, same-made, same-live, same-queue-count, Twin, twin-exchange, Twins, both-on, twins-bind, twins-then, twins-look, twins-pure, twins-stop, twins-put, twins-ok, twins-check, twins-stopIf, twins-doIf, twins-branch, twins-vertex, twins-face, twins-enqueue, twins-queue}
 use Rattle.polytope.proofs.TwinTurns.{None, twins-turns}
 
 -- what is known of every step
@@ -96,9 +96,9 @@ module _ (r r' : Rooms) where
 
   -- ---- two faces
 
-  pub twins-two : (w : World) (tol : Float) (v : ℕ) (s t : State) → 2 ≤ v → v ≤ 3 → Begun None r (nothing-kept r) 2 v 0 0 s → Twin r r' s t → Twins r r' (startTwo w r tol s) (startTwo w r' tol t)
+  pub twins-two : (w : World) (v : ℕ) (s t : State) → 2 ≤ v → v ≤ 3 → Begun None r (nothing-kept r) 2 v 0 0 s → Twin r r' s t → Twins r r' (startTwo w r s) (startTwo w r' t)
   unfolding startTwo twoFaces
-  twins-two w tol v s t l2 l3 h x =
+  twins-two w v s t l2 l3 h x =
       let K = nothing-kept r in
       let E = Ending None theStart 2 r in
       twins-look r r' _ _ s t
@@ -120,9 +120,9 @@ module _ (r r' : Rooms) where
       (meets-oneFace None r K 2 3 (omega arith) 1 0 2 1 0 0 0 _ s2 (omega arith) (omega arith) (omega arith) (omega arith) (omega arith) (omega arith) (omega arith) h2)
       (twins-face r r' 0 2 1 0 0 0 _ _ s2 t2 (same-made w s1 t1 0 2 1 l0 l2 l1 (x1 .same)) x2)
       (λ _ s3 t3 h3 x3.
-      twins-then r r' _ _ _ _ s3 t3 (meets-oneKey None r K 2 3 (omega arith) 0 tol zeroF 0 s3 (omega arith) (omega arith) h3)
-      (twins-queue r r' keyAtStart tol 0 zeroF zeroF s3 t3 refl (omega (arith, h3 .queueFew, h3 .madeAre)) x3)
-      (λ _ s4 t4 h4 x4. twins-queue r r' keyAtStart tol 1 zeroF zeroF s4 t4 refl (omega (arith, h4 .queueFew, h4 .madeAre)) x4))))))
+      twins-then r r' _ _ _ _ s3 t3 (meets-oneEntry None r K 2 3 (omega arith) 0 zeroF 0 s3 (omega arith) (omega arith) h3)
+      (twins-enqueue r r' 0 zeroF s3 t3 (omega (arith, h3 .queueFew, h3 .madeAre)) x3)
+      (λ _ s4 t4 h4 x4. twins-enqueue r r' 1 zeroF s4 t4 (omega (arith, h4 .queueFew, h4 .madeAre)) x4))))))
 
   -- ---- four faces
 
@@ -202,7 +202,7 @@ module _ (r r' : Rooms) where
         let b : Begun None r K F 4 0 0 s = subst (λ (n : ℕ). Begun None r K F n 0 0 s) (h .four q) (h .begins) in
         twins-four w tol s t (subst (λ (n : ℕ). Begun None r K n 4 0 0 s) (starts (eqb d 3) e) b) y)
         (λ e. let q = h .two (eqb-false d 3 e) in
-        twins-two w tol (h .verts) s t (q .0) (q .1) (subst (λ (n : ℕ). Begun None r K n (h .verts) 0 0 s) (starts-two (eqb d 3) e) (h .begins)) y)
+        twins-two w (h .verts) s t (q .0) (q .1) (subst (λ (n : ℕ). Begun None r K n (h .verts) 0 0 s) (starts-two (eqb d 3) e) (h .begins)) y)
 
   pub twins-begin : (w : World) (x : VoronoiSimplex) (s t : State) → Empty s → Twin r r' s t → Twins r r' (begin w r x s) (begin w r' x t)
   unfolding begin
@@ -219,29 +219,24 @@ module _ (r r' : Rooms) where
       (subst (λ (z : Float). Twins r r' (startFaces w r (x .dim) tol s1) (startFaces w r' (x .dim) z t1)) et (twins-faces w x small tol s1 t1 h1 y1))
       (λ _ s2 t2 h2 y2. twins-pure r r' _ _ s2 t2 et y2))))
 
-  nonzero : (n : ℕ) → (n ≡ 0 → ⊥) → 0 < n
-  nonzero n e = omega arith
-
   firstBest : World → ℕ → Best
   firstBest w i = record { face = i; bound = largest (w .format); last = zeroF }
 
-  pub twins-expansions : (f : ℕ) (w : World) (tol : Float) (s t : State) → Ready None f 0 s → Twin r r' s t → Twins r r' (expansions w r tol s) (expansions w r' tol t)
+  pub twins-expansions : (f : ℕ) (w : World) (tol : Float) (s t : State) → Ready None f 0 s → 0 < s .queue .count → Twin r r' s t → Twins r r' (expansions w r tol s) (expansions w r' tol t)
   unfolding expansions firstBest
-  twins-expansions f w tol s t h y =
-      twins-look r r' _ _ s t
-      (twins-check r r' _ _ (nothing nothingQueued) _ _ s t (ap (λ (n : ℕ). eqb n 0) (same-queue-count s t (y .same))) y
-      (λ e. let l = nonzero (s .queue .count) (eqb-false _ _ e) in
+  twins-expansions f w tol s t h l y =
       let i = entryAt (s .queue) 0 .face in
       let q : i ≡ entryAt (t .queue) 0 .face = ap (λ (x : Entry). x .face) (alike-entry (s .queue .count) (s .queue) (t .queue) 0 l (y .same .queue)) in
-      subst (λ (j : ℕ). Twins r r' (turns w r tol 101 (firstBest w i) s) (turns w r' tol 101 (firstBest w j) t)) q
-      (twins-turns r r' f w 101 0 tol (firstBest w i) s t (omega arith) (record { ready = h; bestIn = h .sound .queueIn .each .below 0 l }) y)))
+      twins-look r r' _ _ s t
+      (subst (λ (j : ℕ). Twins r r' (turns w r tol 101 (firstBest w i) s) (turns w r' tol 101 (firstBest w j) t)) q
+      (twins-turns r r' f w 101 0 tol (firstBest w i) s t (omega arith) (record { ready = h; bestIn = h .sound .queueIn .each .below 0 l }) y))
 
   -- two runs in any rooms, from stores that are the same
   pub twins-epa : (w : World) (x : VoronoiSimplex) (s t : State) → Empty s → Twin r r' s t → Twins r r' (epa w r x s) (epa w r' x t)
   unfolding epa
   twins-epa w x s t e y =
       twins-bind r r' _ _ _ _ s t (meets-begin None r (nothing-kept r) w x s e tt) (twins-begin w x s t e y)
-      (λ tol s1 t1 h1 y1. twins-expansions (facesAtStart x) w tol s1 t1 (h1 .0) y1)
+      (λ tol s1 t1 h1 y1. twins-expansions (facesAtStart x) w tol s1 t1 (h1 .0 .0) (h1 .1) y1)
 
 -- stores that are lent are the same where nothing is used yet
 pub twin-fresh : (s t : State) → Twin (roomsOf s) (roomsOf t) (fresh s) (fresh t)

@@ -15,7 +15,7 @@ use Rattle.vector.specs.Vector.{zeroF, lengthV}
 use Rattle.number.specs.Small.{larger}
 use Rattle.polytope.specs.declared.types.Made.{Made}
 use Rattle.heap.specs.Heap.{Heap, Entry, entryAt, pushed, popped}
-use Rattle.polytope.specs.Polytope.{World, State, Rooms, Faces, End, nothing, noRoom, Store, theVerts, theFaces, theHeap, Lost, Found, Out, onward, ended, Act, next, _>>=_, _>>_, Nil, pure, stop, look, put, ok, stopIf, doIf, branch, withVerts, withFaces, withQueue, vecAt, vecCells, vertexAt, putVertex, normalOf, weightsOf, putMade, threeN, oneMore, pushVertex, pushFace, queueFace, link, linkedTo, answerOf, answer, scaleOf, distTol, exchanged, windsInward, delete, clearEdges, complete, madeOf, pointAt, roomsOf, fresh}
+use Rattle.polytope.specs.Polytope.{World, State, Rooms, Faces, End, nothing, noRoom, Store, theVerts, theFaces, theHeap, Lost, Found, Out, onward, ended, Act, next, _>>=_, _>>_, Nil, pure, stop, look, put, ok, stopIf, doIf, branch, withVerts, withFaces, withQueue, vecAt, vecCells, vertexAt, putVertex, normalOf, weightsOf, putMade, threeN, oneMore, pushVertex, pushFace, enqueue, queueFace, link, linkedTo, answerOf, answer, scaleOf, distTol, exchanged, windsInward, delete, clearEdges, complete, madeOf, pointAt, roomsOf, fresh}
 use Rattle.polytope.specs.Bounds.{AllIn, roomFor}
 use Rattle.polytope.specs.Same.{Alike, AlikeHeap, Same, Short, short, Agreed, firstShort, secondShort, alike}
 use Rattle.polytope.proofs.Alike.{alike-none, alike-fewer, alike-set, alike-sets, alike-over, alike-push, alike-pushed, alike-popped}
@@ -408,12 +408,16 @@ module _ (r r' : Rooms) where
       subst (λ (n : Made). Twins (pushFace r (threeN a b c) (threeN x y z) m s) (pushFace r' (threeN a b c) (threeN x y z) n t)) e
       (twins-look _ _ s t (twins-room theFaces (s .faces .count) (t .faces .count) _ _ s t (h .same .faces) h (λ p q. twins-put _ _ s t (twin-face s t a b c x y z m p q h))))
 
+  pub twins-enqueue : (i : ℕ) (key : Float) (s t : State) → s .queue .count < s .faces .count → Twin s t → Twins (enqueue r i key s) (enqueue r' i key t)
+  unfolding enqueue
+  twins-enqueue i key s t k h =
+      twins-look _ _ s t (twins-room theHeap (s .queue .count) (t .queue .count) _ _ s t (same-queue-count s t (h .same)) h (λ p q. twins-put _ _ s t (twin-queue s t _ p q k h)))
+
   pub twins-queue : (why : Lost) (tol : Float) (i : ℕ) (key key' : Float) (s t : State) → key ≡ key' → s .queue .count < s .faces .count → Twin s t → Twins (queueFace r why tol i key s) (queueFace r' why tol i key' t)
   unfolding queueFace
   twins-queue why tol i key key' s t e k h =
       subst (λ (x : Float). Twins (queueFace r why tol i key s) (queueFace r' why tol i x t)) e
-      (twins-look _ _ s t (twins-check _ _ (nothing why) _ _ s t refl h
-      (λ _. twins-room theHeap (s .queue .count) (t .queue .count) _ _ s t (same-queue-count s t (h .same)) h (λ p q. twins-put _ _ s t (twin-queue s t _ p q k h)))))
+      (twins-check _ _ (nothing why) _ _ s t refl h (λ _. twins-enqueue i key s t k h))
 
   pub twins-answer : {A : Type 0} (w : World) (why : Found) (i : ℕ) (s t : State) → i < s .faces .count → AllIn (s .verts .count) (s .faces .count * 3) (s .faces .pts) → Twin s t
       → Twins {A = A} (answer w why i s) (answer w why i t)

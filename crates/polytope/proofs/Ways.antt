@@ -12,8 +12,8 @@ use Rattle.number.specs.Small.{absolute}
 use Rattle.vector.specs.Vector.{_⊖_}
 use Rattle.heap.proofs.Steps.{swap-count}
 use Rattle.heap.specs.Heap.{Heap, Entry, heap, put as putEntry, swap, less, riseIn, rise, pushed}
-use Rattle.polytope.specs.Polytope.{World, State, Rooms, Made, Lost, End, Best, Out, Nil, pushFace, queueFace, queueStart, fourFaces, queueFour, startFour, twoFaces, startTwo, startFaces, bettered, isStuck, doIf}
-use Rattle.polytope.proofs.Steps.{Meets, goes, ends, meets-then, meets-look, meets-put, meets-stopIf, meets-doIf, meets-queue, meets-branch, meets-map}
+use Rattle.polytope.specs.Polytope.{World, State, Rooms, Made, Lost, End, Best, Out, Nil, pushFace, enqueue, queueFace, queueStart, fourFaces, queueFour, startFour, twoFaces, startTwo, startFaces, bettered, isStuck, doIf}
+use Rattle.polytope.proofs.Steps.{Meets, goes, ends, meets-then, meets-look, meets-put, meets-stopIf, meets-doIf, meets-enqueue, meets-queue, meets-branch, meets-map}
 
 -- ---- 'stuck'
 
@@ -79,6 +79,9 @@ Anything a t = Unit {0}
 fills : (r : Rooms) (why : Lost) (tol : Float) (i : ℕ) (key : Float) (s : State) → Meets Filled Ever (queueFace r why tol i key s)
 fills r why tol i key s = meets-queue Ever _ r why tol i key s tt (λ _. tt) (λ _. omega (arith, pushed-count (s .queue) (record { face = i; key = key })))
 
+fills-enqueue : (r : Rooms) (i : ℕ) (key : Float) (s : State) → Meets Filled Ever (enqueue r i key s)
+fills-enqueue r i key s = meets-enqueue Ever _ r i key s (λ _. tt) (λ _. omega (arith, pushed-count (s .queue) (record { face = i; key = key })))
+
 one-of : (a b : Bool) → (a || b) ≡ true → (P : Type 0) → (a ≡ true → P) → (b ≡ true → P) → P
 one-of true b e P p q = p refl
 one-of false b e P p q = q e
@@ -117,7 +120,7 @@ module _ (w : World) (r : Rooms) (tol : Float) where
           by (Out.onward a s) = goes tt
           by (Out.ended e s) = ends tt
 
-  pub fills-startTwo : (s : State) → Meets Filled Ever (startTwo w r tol s)
+  pub fills-startTwo : (s : State) → Meets Filled Ever (startTwo w r s)
   unfolding startTwo twoFaces
   fills-startTwo s =
       meets-look Ever _ _ s
@@ -125,8 +128,8 @@ module _ (w : World) (r : Rooms) (tol : Float) where
       meets-look Ever _ _ s1
       (meets-then Ever Anything _ _ _ s1 (any (pushFace r _ _ _ s1)) λ _ s2 h2.
       meets-then Ever Anything _ _ _ s2 (any (pushFace r _ _ _ s2)) λ _ s3 h3.
-      meets-then Ever Anything _ _ _ s3 (any (queueFace r _ tol 0 _ s3)) λ _ s4 h4.
-      fills r _ tol 1 _ s4))
+      meets-then Ever Anything _ _ _ s3 (any (enqueue r 0 _ s3)) λ _ s4 h4.
+      fills-enqueue r 1 _ s4))
     where
       any : (o : Out Nil) → Meets Anything Ever o
       any (Out.onward a s) = goes tt

@@ -6,7 +6,7 @@ use mathlib.Core.List.{List}
 use lib.ListN.{getD}
 use lib.Dec.{eqb}
 use Rattle.heap.specs.Heap.{Heap}
-use Rattle.polytope.specs.Polytope.{State, Rooms, VoronoiSimplex, End, answers, nothing, panics, noRoom, Found, singlePoint, converged, stuck, newFaceNearer, enoughTurns, heapEmpty, Lost, keyAtStart, noneHolds, nothingQueued, noSilhouette, allDeleted, keyLater, Store, theVerts, theFaces, theEdges, theHeap, Out, onward, ended, Nil, live}
+use Rattle.polytope.specs.Polytope.{State, Rooms, VoronoiSimplex, End, answers, nothing, panics, noRoom, Found, singlePoint, converged, stuck, newFaceNearer, enoughTurns, heapEmpty, Lost, keyAtStart, noneHolds, noSilhouette, allDeleted, keyLater, Store, theVerts, theFaces, theEdges, theHeap, Out, onward, ended, Over, live}
 
 -- ---- the stores
 
@@ -82,7 +82,6 @@ underWayFound heapEmpty = 0
 abbrev pub underWayLost : Lost → ℕ
 underWayLost keyAtStart = 0
 underWayLost noneHolds = 0
-underWayLost nothingQueued = 0
 underWayLost noSilhouette = 1
 underWayLost allDeleted = 1
 underWayLost keyLater = 1
@@ -118,7 +117,7 @@ pub record Ended (F : ℕ) (r : Rooms) (e : End) (s : State) : Type 0 where
   pub tight : Tight from turns r e
 
 -- the run does end, so
-abbrev pub Ends : ℕ → Rooms → Out Nil → Type 0
+abbrev pub Ends : ℕ → Rooms → Out Over → Type 0
 Ends f r (onward a s) = ⊥
 Ends f r (ended e s) = Ended f r e s
 

@@ -10,7 +10,7 @@ use lib.Ieee.{Float, neg}
 use Rattle.number.specs.Constants.{largest}
 use Rattle.vector.specs.Vector.{zeroF, dotV}
 use Rattle.heap.specs.Heap.{Entry, entryAt}
-use Rattle.polytope.specs.Polytope.{World, State, Rooms, VoronoiSimplex, Best, Turn, End, answers, singlePoint, converged, stuck, newFaceNearer, enoughTurns, heapEmpty, Found, nothing, panics, noRoom, nothingQueued, Out, onward, ended, Act, Nil, _>>=_, _>>_, pure, look, stopIf, doIf, branch, live, normalAt, cornerAt, deadAt, madeOf, threeN, link, pushFace, queueNew, growAll, begin, nextTurn, turns, popLive, pushVertex, answer, bettered, hasConverged, isStuck, delete, silhouette, regrow, complete, roomsOf, fresh}
+use Rattle.polytope.specs.Polytope.{World, State, Rooms, VoronoiSimplex, Best, Turn, End, answers, singlePoint, converged, stuck, newFaceNearer, enoughTurns, heapEmpty, Found, nothing, panics, noRoom, Out, onward, ended, Act, Nil, Over, _>>=_, _>>_, pure, look, stopIf, doIf, branch, live, normalAt, cornerAt, deadAt, madeOf, threeN, link, pushFace, queueNew, growAll, begin, nextTurn, turns, popLive, pushVertex, answer, bettered, hasConverged, isStuck, delete, silhouette, regrow, complete, roomsOf, fresh}
 use Rattle.polytope.specs.Bounds.{Within, Part, theStart, theTurns, expansionsAt, facesAtStart}
 
 -- ---- the run as far as k expansions (`run-through`: the run is this, and then the rest)
@@ -24,7 +24,6 @@ pub record Carried : Type 0 where
 unfoldable pub opened : World → Float → Act Carried
 opened w tol = do
   s ← look
-  stopIf (eqb (s .queue .count) 0) (nothing nothingQueued)
   pure (record { tol = tol; best = record { face = entryAt (s .queue) 0 .face; bound = largest (w .format); last = zeroF } })
 
 -- one expansion more
@@ -39,7 +38,7 @@ runTo w r x zero = begin w r x >>= opened w
 runTo w r x (suc k) = runTo w r x k >>= oneMoreTurn w r
 
 -- and at most n expansions more
-unfoldable pub rest : World → Rooms → ℕ → Carried → Act Nil
+unfoldable pub rest : World → Rooms → ℕ → Carried → Act Over
 rest w r n g = turns w r (g .tol) n (g .best)
 
 -- the stores that a run over the lent stores s has after k expansions, if it completes so many

@@ -24,13 +24,14 @@ pub use Rattle.polytope.specs.declared.types.Store.the-variants.{Vertice
 pub use Rattle.polytope.specs.declared.types.Found.{Found}
 pub use Rattle.polytope.specs.declared.types.Found.the-variants.{SinglePoint as singlePoint, Converged as converged, Stuck as stuck, NewFaceNearer as newFaceNearer, EnoughTurns as enoughTurns, HeapEmpty as heapEmpty}
 pub use Rattle.polytope.specs.declared.types.Lost.{Lost}
-pub use Rattle.polytope.specs.declared.types.Lost.the-variants.{KeyAtStart as keyAtStart, NoneHolds as noneHolds, NothingQueued as nothingQueued, NoSilhouette as noSilhouette, AllDeleted as allDeleted, KeyLater as keyLater}
+pub use Rattle.polytope.specs.declared.types.Lost.the-variants.{KeyAtStart as keyAtStart, NoneHolds as noneHolds, NoSilhouette as noSilhouette, AllDeleted as allDeleted, KeyLater as keyLater}
 pub use Rattle.polytope.specs.declared.types.Site.{Site}
 pub use Rattle.polytope.specs.declared.types.Site.the-variants.{NotASimplex as notASimplex, NoThirdVertex as noThirdVertex}
 pub use Rattle.polytope.specs.declared.types.End.{End}
 pub use Rattle.polytope.specs.declared.types.End.the-variants.{Answers as answers, Nothing as nothing, Panics as panics, NoRoom as noRoom}
 pub use Rattle.polytope.specs.declared.types.Step.{Step}
 pub use Rattle.polytope.specs.declared.types.Step.the-variants.{Onward, Ended}
+pub use Rattle.polytope.specs.declared.types.Finish.{Finish}
 pub use Rattle.polytope.specs.declared.types.WalkAnswer.{WalkAnswer}
 pub use Rattle.polytope.specs.declared.types.WalkAnswer.the-variants.{Done, NoRoom}
 pub use Rattle.polytope.specs.declared.types.Question.{Question}
@@ -180,6 +181,14 @@ pub data Out (A : Type 0) : Type 0 where
   onward : A → State → Out A
   ended : End → State → Out A
 
+-- what goes on with nothing: a step of this type only ends
+abbrev pub Over : Type 0
+Over = ⊥
+
+-- how a run ended, by the lists that it leaves
+abbrev pub finishOut : (Run → State) → Finish → Out Over
+finishOut lists x = ended (x .end) (lists (x .run))
+
 -- what a step of the code leaves, by the lists that it leaves
 abbrev pub stepOut : (Run → State) → Step → Out (Unit {0})
 stepOut lists (Onward r) = onward tt (lists r)
@@ -263,13 +272,18 @@ pushFace r ps ns m = do
   stopIf (leb (r .faces) (s .faces .count)) (noRoom theFaces)
   put (withFaces s (oneMore (s .faces) ps ns m))
 
--- a face is queued by its key, which is refused if it is above the tolerance
-unfoldable pub queueFace : Rooms → Lost → Float → ℕ → Float → Act Nil
-queueFace r why tol i key = do
+-- a face is queued by its key
+unfoldable pub enqueue : Rooms → ℕ → Float → Act Nil
+enqueue r i key = do
   s ← look
-  stopIf (lt tol key) (nothing why)
   stopIf (leb (r .heap) (s .queue .count)) (noRoom theHeap)
   put (withQueue s (pushed (s .queue) (record { face = i; key = key })))
+
+-- `FaceId::new(..)?`: a key above the tolerance is refused
+unfoldable pub queueFace : Rooms → Lost → Float → ℕ → Float → Act Nil
+queueFace r why tol i key = do
+  stopIf (lt tol key) (nothing why)
+  enqueue r i key
 
 -- ---- the start
 
@@ -386,21 +400,21 @@ third w r = do
   stopIf (equalV v zeroV) (panics noThirdVertex)
   pushVertex r (w .supp (across (w .format) v))
 
--- two faces, back to back
-unfoldable pub twoFaces : World → Rooms → Float → Act Nil
-twoFaces w r tol = do
+-- two faces, back to back, at key 0: no tolerance refuses it (`zero-key-taken` of proofs/Tolerance.antt)
+unfoldable pub twoFaces : World → Rooms → Act Nil
+twoFaces w r = do
   t ← look
   pushFace r (threeN 0 1 2) (threeN 1 1 1) (madeOf w t 0 1 2)
   pushFace r (threeN 0 2 1) (threeN 0 0 0) (madeOf w t 0 2 1)
-  queueFace r keyAtStart tol 0 zeroF
-  queueFace r keyAtStart tol 1 zeroF
+  enqueue r 0 zeroF
+  enqueue r 1 zeroF
 
 -- two or three vertices: two faces
-unfoldable pub startTwo : World → Rooms → Float → Act Nil
-startTwo w r tol = do
+unfoldable pub startTwo : World → Rooms → Act Nil
+startTwo w r = do
   s ← look
   doIf (eqb (s .verts .count) 2) (third w r)
-  twoFaces w r tol
+  twoFaces w r
 
 -- the vertices of the simplex, and a second one for a single vertex
 unfoldable pub startVertices : World → Rooms → VoronoiSimplex → Act Nil
@@ -410,7 +424,7 @@ startVertices w r x = do
 
 -- the first faces
 unfoldable pub startFaces : World → Rooms → ℕ → Float → Act Nil
-startFaces w r dim tol = branch (eqb dim 3) (startFour w r tol) (startTwo w r tol)
+startFaces w r dim tol = branch (eqb dim 3) (startFour w r tol) (startTwo w r)
 
 -- ---- the expansions
 
@@ -634,15 +648,14 @@ nextTurn w r tol b = do
   pure b1
 
 -- at most n expansions more
-unfoldable pub turns : World → Rooms → Float → ℕ → Best → Act Nil
+unfoldable pub turns : World → Rooms → Float → ℕ → Best → Act Over
 turns w r tol zero b = answer w enoughTurns (b .face)
 turns w r tol (suc n) b = nextTurn w r tol b >>= turns w r tol n
 
--- the expansions, at most 101, from the face that the heap has first
-unfoldable pub expansions : World → Rooms → Float → Act Nil
+-- the expansions, at most 101, from the face that the heap has first: it has one by then (`peek-finds` of proofs/Ways.antt)
+unfoldable pub expansions : World → Rooms → Float → Act Over
 expansions w r tol = do
   s ← look
-  stopIf (eqb (s .queue .count) 0) (nothing nothingQueued)
   turns w r tol 101 (record { face = entryAt (s .queue) 0 .face; bound = largest (w .format); last = zeroF })
 
 -- the start: the vertices, the tolerance of the keys, and the first faces
@@ -656,7 +669,7 @@ begin w r x = do
   pure tol
 
 -- the run: the start, and the expansions
-unfoldable pub epa : World → Rooms → VoronoiSimplex → Act Nil
+unfoldable pub epa : World → Rooms → VoronoiSimplex → Act Over
 epa w r x = begin w r x >>= expansions w r
 
 -- the counts of a run that has not begun
@@ -670,9 +683,9 @@ fresh s =
     noneYet
 
 -- the run over lent stores, whose counts are not read
-unfoldable pub runEpa : World → VoronoiSimplex → State → Out Nil
+unfoldable pub runEpa : World → VoronoiSimplex → State → Out Over
 runEpa w x s = epa w (roomsOf s) x (fresh s)
 
 -- `EPA::closest_points`, for any format and any support function
-unfoldable pub closestPoints : Format → (Vec3 → Vertex) → VoronoiSimplex → State → Out Nil
+unfoldable pub closestPoints : Format → (Vec3 → Vertex) → VoronoiSimplex → State → Out Over
 closestPoints f supp x s = runEpa (worldOf f supp) x s

@@ -4,6 +4,7 @@ mod types;
 
 pub use types::Best;
 pub use types::End;
+pub use types::Finish;
 pub use types::Found;
 pub use types::Lost;
 pub use types::Made;

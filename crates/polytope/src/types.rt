@@ -79,8 +79,6 @@ pub enum Lost {
     KeyAtStart,
     // no starting face holds the projection
     NoneHolds,
-    // the heap is empty at the start
-    NothingQueued,
     // no edge was recorded
     NoSilhouette,
     // each edge recorded is of a deleted face
@@ -110,6 +108,12 @@ pub enum End {
 pub enum Step {
     Onward(Run),
     Ended(End, Run),
+}
+
+// How a run ended, with its counts.
+pub struct Finish {
+    pub end: End,
+    pub run: Run,
 }
 
 // What is known of an expansion under way: the face that is expanded, its distance, the new vertex, and the

@@ -22,13 +22,14 @@ use Rattle.polytope.specs.declared.types.Lost.{Lost}
 use Rattle.polytope.specs.declared.types.Store.the-variants.{Vertices, Faces as FaceStore, Heap as HeapStore}
 use Rattle.polytope.specs.declared.types.End.{End}
 use Rattle.polytope.specs.declared.types.End.the-variants.{Nothing, NoRoom}
+use Rattle.polytope.specs.declared.types.Step.{Step}
 use Rattle.polytope.specs.declared.types.Step.the-variants.{Onward, Ended}
-use Rattle.polytope.specs.Polytope.{State, Faces, Out, Nil, onward, ended, stateOf, withFaces, withQueue, putVertex, oneMore, pushVertex, pushFace, queueFace, stopIf, put, look, _>>=_, _>>_}
+use Rattle.polytope.specs.Polytope.{State, Faces, Out, Nil, onward, ended, stateOf, withFaces, withQueue, putVertex, oneMore, pushVertex, pushFace, enqueue, queueFace, stopIf, put, look, _>>=_, _>>_}
 use Rattle.polytope.proofs.Ways.{pushed-count}
 use Rattle.pushes.specs.declared.types.FaceId.{FaceId}
 use Rattle.pushes.specs.declared.types.MaybeFaceId.{MaybeFaceId}
 use Rattle.pushes.specs.declared.types.MaybeFaceId.the-variants as MaybeFace
-use Rattle.pushes.specs.Contracts.{facesOf, listOf, faceIdNew, heapRoom, PushesVertex, PushesFace, QueuesFace}
+use Rattle.pushes.specs.Contracts.{facesOf, listOf, faceIdNew, heapRoom, PushesVertex, PushesFace, Enqueues, QueuesFace}
 
 abbrev goOn : State → Out Nil
 goOn s = onward tt s
@@ -98,36 +99,40 @@ unlike e = let z : _≡_ {A = ℕ} 0 1 = cc in omega arith
 
 pub key-refused : (rooms : Rooms) (run : Run) (why : Lost) (tol : Float) (i : ℕ) (key : Float) (hf : List ℕ) (hk : List Float) → lt tol key ≡ true
     → QueuesFace rooms run why tol i key hf hk hf hk (Ended (Nothing why) run)
-unfolding queueFace _>>=_ _>>_ look stopIf put
+unfolding queueFace _>>_ stopIf
 key-refused rooms run why tol i key hf hk e v p a n d ef ec = rw e
 
--- the key is accepted as the face x, and `heap::push` answers o
-module _ (rooms : Rooms) (run : Run) (why : Lost) (tol : Float) (i : ℕ) (key : Float) (hf : List ℕ) (hk : List Float) (hf' : List ℕ) (hk' : List Float)
-    {w : MaybeFaceId} {x : FaceId} {o : Pushed} (is : w ≡ faceIdNew i key tol) (some : w ≡ MaybeFace.Some x)
-    (does : after hf' hk' o ≡ pushOf (heap hf hk (run .heap)) (entry (x .id) (x .«neg_dist»))) where
-  ok : (lt tol key ≡ false) × (x ≡ record { id = i; «neg_dist» = key })
-  ok = accepted i key tol x (sym some ∙ is)
+-- the key is accepted as the face x, which is queued
+pub key-accepted : (rooms : Rooms) (run : Run) (why : Lost) (tol : Float) (i : ℕ) (key : Float) (hf : List ℕ) (hk : List Float) (hf' : List ℕ) (hk' : List Float) (r : Step) {w : MaybeFaceId} {x : FaceId}
+    → w ≡ faceIdNew i key tol → w ≡ MaybeFace.Some x → Enqueues rooms run (x .id) (x .«neg_dist») hf hk hf' hk' r → QueuesFace rooms run why tol i key hf hk hf' hk' r
+unfolding queueFace _>>_ stopIf
+key-accepted rooms run why tol i key hf hk hf' hk' r {w} {x} is some does v p a n d ef ec =
+    let ok = accepted i key tol x (sym some ∙ is) in
+    rw (ok .0) ((rw (ok .1) at does) v p a n d ef ec)
 
+-- `heap::push` answers o
+module _ (rooms : Rooms) (run : Run) (i : ℕ) (key : Float) (hf : List ℕ) (hk : List Float) (hf' : List ℕ) (hk' : List Float) {o : Pushed}
+    (does : after hf' hk' o ≡ pushOf (heap hf hk (run .heap)) (entry i key)) where
   does-so : {y : Pushed} → o ≡ y → after hf' hk' y ≡ pushOf (heap hf hk (run .heap)) (entry i key)
-  does-so t = rw (ok .1, t) at does
+  does-so t = rw t at does
 
-  pub heap-refused : o ≡ Push.NoRoom → QueuesFace rooms run why tol i key hf hk hf' hk' (Ended (NoRoom HeapStore) run)
-  unfolding pushOf queueFace _>>=_ _>>_ look stopIf put
+  pub heap-refused : o ≡ Push.NoRoom → Enqueues rooms run i key hf hk hf' hk' (Ended (NoRoom HeapStore) run)
+  unfolding pushOf enqueue _>>=_ _>>_ look stopIf put
   heap-refused t v p a n d ef ec = by (ltb (run .heap) (min (length hf) (length hk))) refl (does-so t)
     where
       by : (b : Bool) → ltb (run .heap) (min (length hf) (length hk)) ≡ b
           → after hf' hk' Push.NoRoom ≡ cond b (leaves (pushed (heap hf hk (run .heap)) (entry i key)) (Push.Done (run .heap + 1))) (leaves (heap hf hk (run .heap)) Push.NoRoom)
-          → endBy (NoRoom HeapStore) (stateOf v p a n d ef ec hf' hk' run) ≡ queueFace (heapRoom rooms hf hk) why tol i key (stateOf v p a n d ef ec hf hk run)
+          → endBy (NoRoom HeapStore) (stateOf v p a n d ef ec hf' hk' run) ≡ enqueue (heapRoom rooms hf hk) i key (stateOf v p a n d ef ec hf hk run)
       by true q z = absurd (unlike (ap (λ (x : After Pushed). x .answer) z))
       by false q z =
           let full : min (length hf) (length hk) ≤ run .heap = omega (arith, ltb-false (run .heap) (min (length hf) (length hk)) q) in
           let e1 : hf' ≡ hf = ap (λ (x : After Pushed). x .faces) z in
           let e2 : hk' ≡ hk = ap (λ (x : After Pushed). x .keys) z in
-          rw (ok .0, le-leb (min (length hf) (length hk)) (run .heap) full, e1, e2)
+          rw (le-leb (min (length hf) (length hk)) (run .heap) full, e1, e2)
 
   pub key-queued : {k : ℕ} → o ≡ Push.Done k
-      → QueuesFace rooms run why tol i key hf hk hf' hk' (Onward (record { vertices = run .vertices; faces = run .faces; edges = run .edges; heap = k; done = run .done; most = run .most }))
-  unfolding pushOf queueFace _>>=_ _>>_ look stopIf put
+      → Enqueues rooms run i key hf hk hf' hk' (Onward (record { vertices = run .vertices; faces = run .faces; edges = run .edges; heap = k; done = run .done; most = run .most }))
+  unfolding pushOf enqueue _>>=_ _>>_ look stopIf put
   key-queued {k} t v p a n d ef ec = by (ltb (run .heap) (min (length hf) (length hk))) refl (does-so t)
     where
       h0 : Heap
@@ -135,7 +140,7 @@ module _ (rooms : Rooms) (run : Run) (why : Lost) (tol : Float) (i : ℕ) (key :
 
       by : (b : Bool) → ltb (run .heap) (min (length hf) (length hk)) ≡ b
           → after hf' hk' (Push.Done k) ≡ cond b (leaves (pushed h0 (entry i key)) (Push.Done (run .heap + 1))) (leaves h0 Push.NoRoom)
-          → goOn (stateOf v p a n d ef ec hf' hk' (record { vertices = run .vertices; faces = run .faces; edges = run .edges; heap = k; done = run .done; most = run .most })) ≡ queueFace (heapRoom rooms hf hk) why tol i key (stateOf v p a n d ef ec hf hk run)
+          → goOn (stateOf v p a n d ef ec hf' hk' (record { vertices = run .vertices; faces = run .faces; edges = run .edges; heap = k; done = run .done; most = run .most })) ≡ enqueue (heapRoom rooms hf hk) i key (stateOf v p a n d ef ec hf hk run)
       by true q z =
           let free : run .heap < min (length hf) (length hk) = omega (arith, ltb-true (run .heap) (min (length hf) (length hk)) q) in
           let e1 : hf' ≡ pushed h0 (entry i key) .faces = ap (λ (x : After Pushed). x .faces) z in
@@ -143,5 +148,5 @@ module _ (rooms : Rooms) (run : Run) (why : Lost) (tol : Float) (i : ℕ) (key :
           let done : Push.Done k ≡ Push.Done (run .heap + 1) = ap (λ (x : After Pushed). x .answer) z in
           let e3 : k ≡ run .heap + 1 = same-count done in
           let e4 : heap hf' hk' k ≡ pushed h0 (entry i key) = rw (e1, e2, e3 ∙ sym (pushed-count h0 (entry i key))) in
-          rw (ok .0, lt-leb (min (length hf) (length hk)) (run .heap) free) (ap (λ (h : Heap). goOn (withQueue (stateOf v p a n d ef ec hf hk run) h)) e4)
+          rw (lt-leb (min (length hf) (length hk)) (run .heap) free) (ap (λ (h : Heap). goOn (withQueue (stateOf v p a n d ef ec hf hk run) h)) e4)
       by false q z = absurd (unlike (sym (ap (λ (x : After Pushed). x .answer) z)))

@@ -10,7 +10,7 @@ use Rattle.vector.specs.declared.pose.Pose.{Pose}
 use Rattle.shape.specs.declared.shape.Shape.{Shape}
 use Rattle.shape.specs.declared.vertex.Vertex.{Vertex}
 use Rattle.shape.specs.Support.{fromShapes}
-use Rattle.polytope.specs.Polytope.{World, worldOf, Faces, stateOf, stepOut, threeN, pushVertex, pushFace, queueFace}
+use Rattle.polytope.specs.Polytope.{World, worldOf, Faces, stateOf, stepOut, threeN, pushVertex, pushFace, enqueue, queueFace}
 use Rattle.polytope.specs.declared.types.Run.{Run}
 use Rattle.polytope.specs.declared.types.Rooms.{Rooms}
 use Rattle.polytope.specs.declared.types.Three.{Three}
@@ -53,6 +53,12 @@ abbrev pub PushesFace : Rooms → Run → Three → Three → Made → List ℕ 
 PushesFace rooms run ps ns m p a n d p' a' n' d' r =
     (v : List Float) (ef ec hf : List ℕ) (hk : List Float)
     → stepOut (λ c. stateOf v p' a' n' d' ef ec hf hk c) r ≡ pushFace rooms (listOf ps) (listOf ns) m (stateOf v p a n d ef ec hf hk run)
+
+-- `enqueue`
+abbrev pub Enqueues : Rooms → Run → ℕ → Float → List ℕ → List Float → List ℕ → List Float → Step → Type 0
+Enqueues rooms run i key hf hk hf' hk' r =
+    (v : List Float) (p a : List ℕ) (n : List Float) (d ef ec : List ℕ)
+    → stepOut (λ c. stateOf v p a n d ef ec hf' hk' c) r ≡ enqueue (heapRoom rooms hf hk) i key (stateOf v p a n d ef ec hf hk run)
 
 -- `queueFace`
 abbrev pub QueuesFace : Rooms → Run → Lost → Float → ℕ → Float → List ℕ → List Float → List ℕ → List Float → Step → Type 0

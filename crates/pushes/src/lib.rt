@@ -3,6 +3,7 @@
 mod pushes;
 mod types;
 
+pub use pushes::enqueue;
 pub use pushes::face_id_new;
 pub use pushes::made_of;
 pub use pushes::push_face;

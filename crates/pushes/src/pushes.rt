@@ -5,7 +5,7 @@ ghost use Prim.Native.Nat.{_+_, _*_};
 ghost use lib.Ieee.{binary32};
 ghost use Rattle.polytope.specs.Face.{faceNew};
 ghost use Rattle.polytope.specs.Polytope.{oneMore, vertexAt};
-ghost use Rattle.pushes.specs.Contracts.{facesOf, faceIdNew, PushesVertex, PushesFace, QueuesFace, listOf};
+ghost use Rattle.pushes.specs.Contracts.{facesOf, faceIdNew, PushesVertex, PushesFace, Enqueues, QueuesFace, listOf};
 use crate::types::FaceId;
 use crate::types::MaybeFaceId;
 use faces::face_new;
@@ -109,7 +109,26 @@ pub fn face_id_new(id: usize, neg_dist: f32, tol: f32) -> MaybeFaceId
     }
 }
 
-// A face is queued by its key: `self.heap.push(FaceId::new(id, neg_dist, tol)?)`.
+// A face is queued by its key, where there is room.
+pub fn enqueue(
+    heap_face: &mut [usize],
+    heap_key: &mut [f32],
+    rooms: Rooms,
+    run: Run,
+    id: usize,
+    neg_dist: f32,
+) -> Step
+    ensures { λ r. ⌜ Enqueues rooms run id «neg_dist» (now («heap_face» .entry)) (now («heap_key» .entry)) (now («heap_face» .exit)) (now («heap_key» .exit)) r ⌝ }
+{
+    let Pushed::Done(count) = heap::push(heap_face, heap_key, run.heap, id, neg_dist) else {
+        return Step::Ended(End::NoRoom(Store::Heap), run);
+    };
+    let mut next = run;
+    next.heap = count;
+    Step::Onward(next)
+}
+
+// `self.heap.push(FaceId::new(id, neg_dist, tol)?)`.
 pub fn queue_face(
     heap_face: &mut [usize],
     heap_key: &mut [f32],
@@ -125,11 +144,5 @@ pub fn queue_face(
     let MaybeFaceId::Some(face) = face_id_new(id, neg_dist, tol) else {
         return Step::Ended(End::Nothing(why), run);
     };
-    let Pushed::Done(count) = heap::push(heap_face, heap_key, run.heap, face.id, face.neg_dist)
-    else {
-        return Step::Ended(End::NoRoom(Store::Heap), run);
-    };
-    let mut next = run;
-    next.heap = count;
-    Step::Onward(next)
+    enqueue(heap_face, heap_key, rooms, run, face.id, face.neg_dist)
 }

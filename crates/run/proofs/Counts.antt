@@ -8,7 +8,7 @@ use lib.Dec.{ltb}
 use lib.Ieee.{Float, nan}
 use Rattle.heap.specs.Heap.{Heap, Entry, entryAt, put as putEntry, swap, greater, placed, sinkIn, sink, rise, settled, cleared, popped}
 use Rattle.polytope.specs.Walk.{Walked, walked, edges, facing, passOf}
-use Rattle.polytope.specs.Polytope.{World, State, withQueue, meshOf, delete, clearEdges, closeRing, regrow, expand, turn, advance, turnIf, complete, nextTurn, popLive, popEntry, pure, queueFace, queueNew, growAt, grow, growAll, passed, silhouette, answer, look, put, _>>=_, _>>_}
+use Rattle.polytope.specs.Polytope.{World, State, withQueue, meshOf, delete, clearEdges, closeRing, regrow, expand, turn, advance, turnIf, complete, nextTurn, popLive, popEntry, pure, enqueue, queueFace, queueNew, growAt, grow, growAll, passed, silhouette, answer, look, put, _>>=_, _>>_}
 use Rattle.polytope.specs.declared.types.Rooms.{Rooms}
 use Rattle.polytope.specs.declared.types.Turn.{Turn}
 use Rattle.polytope.specs.declared.types.Best.{Best}
@@ -18,7 +18,7 @@ use Rattle.polytope.specs.declared.types.End.{End}
 use Rattle.polytope.specs.declared.types.WalkAnswer.{WalkAnswer}
 use Rattle.polytope.specs.declared.types.WalkAnswer.the-variants.{Done, NoRoom}
 use Rattle.polytope.proofs.Ways.{pushed-count, rise-count}
-use Rattle.polytope.proofs.Steps.{Meets, goes, ends, meets-then, meets-look, meets-ok, meets-stop, meets-put, meets-pure, meets-stopIf, meets-doIf, meets-link, meets-face, meets-queue, meets-vertex, meets-branch, meets-bind, meets-map}
+use Rattle.polytope.proofs.Steps.{Meets, goes, ends, meets-then, meets-look, meets-ok, meets-stop, meets-put, meets-pure, meets-stopIf, meets-doIf, meets-link, meets-face, meets-enqueue, meets-queue, meets-vertex, meets-branch, meets-bind, meets-map}
 
 -- ---- a pop leaves one entry fewer
 
@@ -61,6 +61,10 @@ module _ (r : Rooms) (q : ℕ) where
   K k x s = Counted r k q s
 
   module _ (k : ℕ) where
+    pub counted-enqueue : (i : ℕ) (key : Float) (s : State) → Counted r k q s → Meets (K k) Ever (enqueue r i key s)
+    counted-enqueue i key s h =
+        meets-enqueue Ever (K k) r i key s (λ _. tt) (λ l. record { completed = h .completed; queued = λ _. omega (arith, l, pushed-count (s .queue) (record { face = i; key = key })) })
+
     pub counted-queue : (why : Lost) (tol : Float) (i : ℕ) (key : Float) (s : State) → Counted r k q s → Meets (K k) Ever (queueFace r why tol i key s)
     counted-queue why tol i key s h =
         meets-queue Ever (K k) r why tol i key s tt (λ _. tt) (λ l. record { completed = h .completed; queued = λ _. omega (arith, l, pushed-count (s .queue) (record { face = i; key = key })) })

@@ -11,9 +11,8 @@ use Rattle.simplex.specs.declared.simplex.VoronoiSimplex.{VoronoiSimplex}
 use Rattle.polytope.specs.declared.types.Run.{Run}
 use Rattle.polytope.specs.declared.types.Rooms.{Rooms}
 use Rattle.polytope.specs.declared.types.End.{End}
-use Rattle.polytope.specs.declared.types.Step.{Step}
-use Rattle.polytope.specs.declared.types.Step.the-variants.{Ended}
-use Rattle.polytope.specs.Polytope.{World, State, Out, stateOf, stepOut, expansions, epa, noneYet, next, _>>=_}
+use Rattle.polytope.specs.declared.types.Finish.{Finish}
+use Rattle.polytope.specs.Polytope.{World, State, Out, stateOf, finishOut, expansions, epa, noneYet, next, _>>=_}
 use Rattle.polytope.proofs.Steps.{Meets}
 use Rattle.pushes.specs.Contracts.{worldBy, heapRoom}
 use Rattle.start.specs.declared.types.Begun.{Begun}
@@ -41,15 +40,15 @@ module _ (m : Pose) (g1 g2 : Shape) (rooms : Rooms) (x : VoronoiSimplex) (v : Li
   unfolding epa _>>=_
   goes-on y t = ap (λ (o : Out Float). next o (expansions W R)) (ap (λ (z : Begun). begunOut lists z) (sym t) ∙ g ef ec)
 
-  pub start-ends : (e : End) (z : Run) → r ≡ Beginning.Ended e z → Runs m g1 g2 rooms x v p a n d ef ec hf hk v' p' a' n' d' ef ec hf' hk' (Ended e z)
+  pub start-ends : (e : End) (z : Run) → r ≡ Beginning.Ended e z → Runs m g1 g2 rooms x v p a n d ef ec hf hk v' p' a' n' d' ef ec hf' hk' (record { end = e; run = z })
   start-ends e z u = goes-on (Beginning.Ended e z) u
 
   module _ (tol : Float) (z : Run) (u : r ≡ Beginning.Ready tol z) (kf : length hf' ≡ length hf) (kk : length hk' ≡ length hk) where
-    pub run-ends : (v3 : List Float) (p3 a3 : List ℕ) (n3 : List Float) (d3 ef3 ec3 hf3 : List ℕ) (hk3 : List Float) (r3 : Step)
+    pub run-ends : (v3 : List Float) (p3 a3 : List ℕ) (n3 : List Float) (d3 ef3 ec3 hf3 : List ℕ) (hk3 : List Float) (r3 : Finish)
         → Expansions m g1 g2 rooms z tol v' p' a' n' d' ef ec hf' hk' v3 p3 a3 n3 d3 ef3 ec3 hf3 hk3 r3 → Runs m g1 g2 rooms x v p a n d ef ec hf hk v3 p3 a3 n3 d3 ef3 ec3 hf3 hk3 r3
     run-ends v3 p3 a3 n3 d3 ef3 ec3 hf3 hk3 r3 h =
         let same : heapRoom rooms hf' hk' ≡ R = rw (kf, kk) in
-        subst (λ (k : Rooms). stepOut (λ c. stateOf v3 p3 a3 n3 d3 ef3 ec3 hf3 hk3 c) r3 ≡ expansions W k tol (lists z)) same h
+        subst (λ (k : Rooms). finishOut (λ c. stateOf v3 p3 a3 n3 d3 ef3 ec3 hf3 hk3 c) r3 ≡ expansions W k tol (lists z)) same h
         ∙ goes-on (Beginning.Ready tol z) u
 
     -- the expansions' caller keeps what they ask

@@ -10,7 +10,7 @@ use Rattle.polytope.specs.declared.types.Made.{Made}
 use Rattle.polytope.specs.declared.types.End.{End}
 use Rattle.polytope.specs.Polytope.{World, State, Nil, pushVertex, pushFace, pushPoints, second, bootstrap, firstFar, vertexAt, startVertices, queueStart, fourFaces, queueFour, startFour, third, twoFaces, startTwo, startFaces, begin}
 use Rattle.polytope.proofs.Steps.{Meets, meets-then, meets-look, meets-put, meets-pure, meets-ok, meets-stop, meets-stopIf, meets-doIf, meets-face, meets-vertex, meets-branch}
-use Rattle.run.proofs.Counts.{Counted, counted-queue}
+use Rattle.run.proofs.Counts.{Counted, counted-enqueue, counted-queue}
 
 abbrev Ever : End → State → Type 0
 Ever e s = Unit {0}
@@ -67,16 +67,16 @@ module _ (r : Rooms) (q k : ℕ) where
           meets-then Ever K K _ _ s5 (counted-start 3 _ s5 h5) λ _ s6 h6.
           meets-stopIf Ever K _ _ s6 (λ _. tt) (λ _. h6)))
 
-      counted-two : (s : State) → Counted r k q s → Meets K Ever (twoFaces w r tol s)
+      counted-two : (s : State) → Counted r k q s → Meets K Ever (twoFaces w r s)
       unfolding twoFaces
       counted-two s h =
           meets-look Ever K _ s
           (meets-then Ever K K _ _ s (counted-face _ _ _ s h) λ _ s1 h1.
           meets-then Ever K K _ _ s1 (counted-face _ _ _ s1 h1) λ _ s2 h2.
-          meets-then Ever K K _ _ s2 (counted-queue r q k _ tol 0 _ s2 h2) λ _ s3 h3.
-          counted-queue r q k _ tol 1 _ s3 h3)
+          meets-then Ever K K _ _ s2 (counted-enqueue r q k 0 _ s2 h2) λ _ s3 h3.
+          counted-enqueue r q k 1 _ s3 h3)
 
-      counted-startTwo : (s : State) → Counted r k q s → Meets K Ever (startTwo w r tol s)
+      counted-startTwo : (s : State) → Counted r k q s → Meets K Ever (startTwo w r s)
       unfolding startTwo third
       counted-startTwo s h =
           meets-look Ever K _ s

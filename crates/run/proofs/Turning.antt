@@ -6,7 +6,6 @@ use Prim.Native.Nat.{ℕ, suc, _-_, _<_, _≤_}
 use native.Mathlib.Omega.{arith}
 use lib.ListN.{length}
 use lib.Ieee.{Float, binary32}
-use borrow.Author.Tests.{eq-eqb, ne-eqb}
 use Rattle.vector.specs.declared.pose.Pose.{Pose}
 use Rattle.shape.specs.declared.shape.Shape.{Shape}
 use Rattle.heap.specs.Heap.{Entry}
@@ -14,11 +13,8 @@ use Rattle.polytope.specs.declared.types.Run.{Run}
 use Rattle.polytope.specs.declared.types.Rooms.{Rooms}
 use Rattle.polytope.specs.declared.types.Best.{Best}
 use Rattle.polytope.specs.declared.types.Found.the-variants.{EnoughTurns, HeapEmpty}
-use Rattle.polytope.specs.declared.types.Lost.the-variants.{NothingQueued}
 use Rattle.polytope.specs.declared.types.End.{End}
-use Rattle.polytope.specs.declared.types.End.the-variants.{Nothing}
-use Rattle.polytope.specs.declared.types.Step.the-variants.{Ended}
-use Rattle.polytope.specs.Polytope.{World, Out, Act, Nil, stateOf, answerOf, answer, turn, turnIf, popLive, complete, nextTurn, turns, expansions, pure, stop, stopIf, next, look, put, _>>=_, _>>_}
+use Rattle.polytope.specs.Polytope.{World, Out, Act, Over, stateOf, answerOf, answer, turn, turnIf, popLive, complete, nextTurn, turns, expansions, pure, stop, stopIf, next, look, put, _>>=_, _>>_}
 use Rattle.polytope.proofs.Steps.{Meets}
 use Rattle.pushes.specs.declared.types.FaceId.{FaceId}
 use Rattle.pushes.specs.declared.types.MaybeFaceId.{MaybeFaceId}
@@ -89,7 +85,7 @@ module _ (m : Pose) (g1 g2 : Shape) (rooms : Rooms) (tol : Float) (v0 : List Flo
   abbrev R : Rooms
   R = heapRoom rooms hf0 hk0
 
-  abbrev Whole : Out Nil
+  abbrev Whole : Out Over
   Whole = expansions W R tol (stateOf v0 p0 a0 n0 d0 ef0 ec0 hf0 hk0 run0)
 
   pub record TurnLoop (v : List Float) (p a : List ℕ) (n : List Float) (d ef ec hf : List ℕ) (hk : List Float) (run : Run) (b : Best) (k : ℕ) : Type 0 where
@@ -105,22 +101,18 @@ module _ (m : Pose) (g1 g2 : Shape) (rooms : Rooms) (tol : Float) (v0 : List Flo
     pub ready : TurnsReady run k hf hk
     pub goesOn : turns W R tol k b (stateOf v p a n d ef ec hf hk run) ≡ Whole
 
-  pub nothing-queued : run0 .heap ≡ 0 → Expansions m g1 g2 rooms run0 tol v0 p0 a0 n0 d0 ef0 ec0 hf0 hk0 v0 p0 a0 n0 d0 ef0 ec0 hf0 hk0 (Ended (Nothing NothingQueued) run0)
-  unfolding expansions look stopIf _>>=_ _>>_
-  nothing-queued e = rw (eq-eqb (run0 .heap) 0 e)
+  from-first : turns W R tol 101 (firstBest hf0) (stateOf v0 p0 a0 n0 d0 ef0 ec0 hf0 hk0 run0) ≡ Whole
+  unfolding expansions look _>>=_
+  from-first = refl
 
-  from-first : (run0 .heap ≡ 0 → ⊥) → turns W R tol 101 (firstBest hf0) (stateOf v0 p0 a0 n0 d0 ef0 ec0 hf0 hk0 run0) ≡ Whole
-  unfolding expansions look stopIf _>>=_ _>>_
-  from-first full = rw (ne-eqb (run0 .heap) 0 full)
-
-  pub turns-start : TurnsReady run0 101 hf0 hk0 → (run0 .heap ≡ 0 → ⊥) → (b : Best) → b ≡ firstBest hf0 → TurnLoop v0 p0 a0 n0 d0 ef0 ec0 hf0 hk0 run0 b 101
-  turns-start h full b is = record { sameVertices = refl; samePts = refl; sameAdj = refl; sameNums = refl; sameDead = refl; sameEdgeFaces = refl; sameEdgeCorners = refl; sameFaces = refl; sameKeys = refl; ready = h; goesOn = rw is (from-first full) }
+  pub turns-start : TurnsReady run0 101 hf0 hk0 → (b : Best) → b ≡ firstBest hf0 → TurnLoop v0 p0 a0 n0 d0 ef0 ec0 hf0 hk0 run0 b 101
+  turns-start h b is = record { sameVertices = refl; samePts = refl; sameAdj = refl; sameNums = refl; sameDead = refl; sameEdgeFaces = refl; sameEdgeCorners = refl; sameFaces = refl; sameKeys = refl; ready = h; goesOn = rw is from-first }
 
   module _ {v : List Float} {p a : List ℕ} {n : List Float} {d ef ec hf : List ℕ} {hk : List Float} {run : Run} {b : Best} {k : ℕ} (h : TurnLoop v p a n d ef ec hf hk run b k) where
     pub turn-ready : 0 < k → TurnsReady run 1 hf hk
     turn-ready l = record { entriesIn = h .ready .entriesIn; expansionsLeft = let e = h .ready .expansionsLeft in omega arith }
 
-    pub turns-done : k ≤ 0 → (e : End) → e ≡ answerOf binary32 EnoughTurns v p n (b .face) → Expansions m g1 g2 rooms run0 tol v0 p0 a0 n0 d0 ef0 ec0 hf0 hk0 v p a n d ef ec hf hk (Ended e run)
+    pub turns-done : k ≤ 0 → (e : End) → e ≡ answerOf binary32 EnoughTurns v p n (b .face) → Expansions m g1 g2 rooms run0 tol v0 p0 a0 n0 d0 ef0 ec0 hf0 hk0 v p a n d ef ec hf hk (record { end = e; run = run })
     unfolding turns answer stop look _>>=_
     turns-done l e q =
         let z : k ≡ 0 = omega arith in
@@ -141,7 +133,7 @@ module _ (m : Pose) (g1 g2 : Shape) (rooms : Rooms) (tol : Float) (v0 : List Flo
           ap (λ (o : Out Best). next o (turns W R tol (k - 1))) (ap (λ (x : Turned). turnedOut (λ c. stateOf v' p' a' n' d' ef' ec' hf' hk' c) x) (sym t) ∙ one)
           ∙ whole
 
-      pub turns-end : (e : End) (x : Run) → r ≡ Turning.Ended e x → Expansions m g1 g2 rooms run0 tol v0 p0 a0 n0 d0 ef0 ec0 hf0 hk0 v' p' a' n' d' ef' ec' hf' hk' (Ended e x)
+      pub turns-end : (e : End) (x : Run) → r ≡ Turning.Ended e x → Expansions m g1 g2 rooms run0 tol v0 p0 a0 n0 d0 ef0 ec0 hf0 hk0 v' p' a' n' d' ef' ec' hf' hk' (record { end = e; run = x })
       turns-end e x t = one-turn (Turning.Ended e x) t
 
       module _ (b1 : Best) (x : Run) (t : r ≡ Turning.Next b1 x) (kv : length v' ≡ length v) (kp : length p' ≡ length p) (ka : length a' ≡ length a) (kn : length n' ≡ length n) (kd : length d' ≡ length d)

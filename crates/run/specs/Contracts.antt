@@ -12,11 +12,11 @@ use Rattle.vector.specs.declared.pose.Pose.{Pose}
 use Rattle.shape.specs.declared.shape.Shape.{Shape}
 use Rattle.simplex.specs.declared.simplex.VoronoiSimplex.{VoronoiSimplex}
 use Rattle.heap.specs.Heap.{Entry}
-use Rattle.polytope.specs.Polytope.{State, stateOf, stepOut, Out, onward, popLive, nextTurn, expansions, epa, noneYet}
+use Rattle.polytope.specs.Polytope.{State, stateOf, finishOut, Out, onward, popLive, nextTurn, expansions, epa, noneYet}
 use Rattle.polytope.specs.declared.types.Run.{Run}
 use Rattle.polytope.specs.declared.types.Rooms.{Rooms}
 use Rattle.polytope.specs.declared.types.Best.{Best}
-use Rattle.polytope.specs.declared.types.Step.{Step}
+use Rattle.polytope.specs.declared.types.Finish.{Finish}
 use Rattle.pushes.specs.declared.types.MaybeFaceId.{MaybeFaceId}
 use Rattle.pushes.specs.declared.types.MaybeFaceId.the-variants as MaybeFace
 use Rattle.run.specs.declared.types.Popped.{Popped}
@@ -68,13 +68,13 @@ abbrev pub firstBest : List ℕ → Best
 firstBest hf = record { face = getD hf 0 0; bound = largest binary32; last = zeroF }
 
 -- `expansions`
-abbrev pub Expansions : Pose → Shape → Shape → Rooms → Run → Float → List Float → List ℕ → List ℕ → List Float → List ℕ → List ℕ → List ℕ → List ℕ → List Float → List Float → List ℕ → List ℕ → List Float → List ℕ → List ℕ → List ℕ → List ℕ → List Float → Step → Type 0
+abbrev pub Expansions : Pose → Shape → Shape → Rooms → Run → Float → List Float → List ℕ → List ℕ → List Float → List ℕ → List ℕ → List ℕ → List ℕ → List Float → List Float → List ℕ → List ℕ → List Float → List ℕ → List ℕ → List ℕ → List ℕ → List Float → Finish → Type 0
 Expansions m g1 g2 rooms run tol v p a n d ef ec hf hk v' p' a' n' d' ef' ec' hf' hk' r =
-    stepOut (λ c. stateOf v' p' a' n' d' ef' ec' hf' hk' c) r ≡ expansions (worldBy m g1 g2) (heapRoom rooms hf hk) tol (stateOf v p a n d ef ec hf hk run)
+    finishOut (λ c. stateOf v' p' a' n' d' ef' ec' hf' hk' c) r ≡ expansions (worldBy m g1 g2) (heapRoom rooms hf hk) tol (stateOf v p a n d ef ec hf hk run)
 
 -- ---- the run
 
 -- `epa`, from stores with no entries
-abbrev pub Runs : Pose → Shape → Shape → Rooms → VoronoiSimplex → List Float → List ℕ → List ℕ → List Float → List ℕ → List ℕ → List ℕ → List ℕ → List Float → List Float → List ℕ → List ℕ → List Float → List ℕ → List ℕ → List ℕ → List ℕ → List Float → Step → Type 0
+abbrev pub Runs : Pose → Shape → Shape → Rooms → VoronoiSimplex → List Float → List ℕ → List ℕ → List Float → List ℕ → List ℕ → List ℕ → List ℕ → List Float → List Float → List ℕ → List ℕ → List Float → List ℕ → List ℕ → List ℕ → List ℕ → List Float → Finish → Type 0
 Runs m g1 g2 rooms x v p a n d ef ec hf hk v' p' a' n' d' ef' ec' hf' hk' r =
-    stepOut (λ c. stateOf v' p' a' n' d' ef' ec' hf' hk' c) r ≡ epa (worldBy m g1 g2) (heapRoom rooms hf hk) x (stateOf v p a n d ef ec hf hk noneYet)
+    finishOut (λ c. stateOf v' p' a' n' d' ef' ec' hf' hk' c) r ≡ epa (worldBy m g1 g2) (heapRoom rooms hf hk) x (stateOf v p a n d ef ec hf hk noneYet)

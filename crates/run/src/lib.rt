@@ -6,8 +6,8 @@ ghost use Rattle.run.specs.Contracts.{Runs};
 mod turns;
 mod types;
 
+use polytope::Finish;
 use polytope::Rooms;
-use polytope::Step;
 use shape::Shape;
 use simplex::VoronoiSimplex;
 use start::Begun;
@@ -31,7 +31,7 @@ pub fn run_epa(
     g2: Shape,
     rooms: Rooms,
     simplex: VoronoiSimplex,
-) -> Step
+) -> Finish
     ensures { λ r. ⌜ Runs pos12 g1 g2 rooms simplex (now (vertices .entry)) (now (pts .entry)) (now (adj .entry)) (now (nums .entry)) (now (dead .entry)) (now («edge_face» .entry)) (now («edge_corner» .entry)) (now («heap_face» .entry)) (now («heap_key» .entry)) (now (vertices .exit)) (now (pts .exit)) (now (adj .exit)) (now (nums .exit)) (now (dead .exit)) (now («edge_face» .exit)) (now («edge_corner» .exit)) (now («heap_face» .exit)) (now («heap_key» .exit)) r ⌝ }
 {
     let begun = begin(
@@ -49,7 +49,7 @@ pub fn run_epa(
         simplex,
     );
     match begun {
-        Begun::Ended(end, run) => Step::Ended(end, run),
+        Begun::Ended(end, run) => Finish { end, run },
         Begun::Ready(tol, run) => expansions(
             vertices,
             pts,

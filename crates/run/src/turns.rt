@@ -6,12 +6,10 @@ ghost use Rattle.run.specs.Contracts.{PopsLive, Early, completedOf, Next
 use crate::types::Popped;
 use faces::answer_of;
 use polytope::Best;
-use polytope::End;
+use polytope::Finish;
 use polytope::Found;
-use polytope::Lost;
 use polytope::Rooms;
 use polytope::Run;
-use polytope::Step;
 use pushes::FaceId;
 use pushes::MaybeFaceId;
 use shape::Shape;
@@ -130,7 +128,7 @@ fn first_best(heap_face: &[usize]) -> Best
     }
 }
 
-// The expansions, at most 101.
+// The expansions, at most 101, from the face that the heap has first: one has been queued by then.
 pub fn expansions(
     vertices: &mut [f32],
     pts: &mut [usize],
@@ -147,13 +145,10 @@ pub fn expansions(
     rooms: Rooms,
     start: Run,
     tol: f32,
-) -> Step
+) -> Finish
     requires { ⌜ TurnsReady start 101 (now «heap_face») (now «heap_key») ⌝ }
     ensures { λ r. ⌜ Expansions pos12 g1 g2 rooms start tol (now (vertices .entry)) (now (pts .entry)) (now (adj .entry)) (now (nums .entry)) (now (dead .entry)) (now («edge_face» .entry)) (now («edge_corner» .entry)) (now («heap_face» .entry)) (now («heap_key» .entry)) (now (vertices .exit)) (now (pts .exit)) (now (adj .exit)) (now (nums .exit)) (now (dead .exit)) (now («edge_face» .exit)) (now («edge_corner» .exit)) (now («heap_face» .exit)) (now («heap_key» .exit)) r ⌝ }
 {
-    if start.heap == 0 {
-        return Step::Ended(End::Nothing(Lost::NothingQueued), start);
-    }
     let mut run = start;
     let mut best = first_best(heap_face);
     let mut left: usize = 101;
@@ -177,7 +172,7 @@ pub fn expansions(
             best,
         );
         match turned {
-            Turned::Ended(end, next) => return Step::Ended(end, next),
+            Turned::Ended(end, next) => return Finish { end, run: next },
             Turned::Next(better, next) => {
                 best = better;
                 run = next;
@@ -186,5 +181,5 @@ pub fn expansions(
         left -= 1;
     }
     let end = answer_of(Found::EnoughTurns, vertices, pts, nums, best.face);
-    Step::Ended(end, run)
+    Finish { end, run }
 }
