@@ -1,5 +1,6 @@
 -- The location where the origin projects on a simplex is one that the simplex has (`location-fits`). Applying such a location is never refused (`location-applies`), so
--- `project_origin_and_reduce` gives what `project_origin` gives, and is refused only where the projection is (`reduced-projection`). Of any format. Assumes nothing.
+-- `project_origin_and_reduce` need not look at what applying answers (`found-applies`): it gives what `project_origin` gives, and is refused only where the projection is
+-- (`reduced-projection`). Of any format. Assumes nothing.
 use mathlib.Core.Path.{_≡_, refl}
 use mathlib.Core.Bool.{Bool, true, false, cond, _||_}
 use Prim.Native.Nat.{ℕ, zero, suc, _≤_, _<_}
@@ -27,7 +28,6 @@ use Rattle.simplex.specs.declared.operations.Outcome.the-variants.{Done}
 use Rattle.reduction.specs.declared.Projected.the-variants.{At, Refused}
 use Rattle.simplex.specs.Simplex.{isSimplex}
 use Rattle.reduction.specs.Reduction.{segmentLocated, tetrahedronLocated, locateSegment, locateTriangle, locateTetrahedron, findLocation, applySegment, applyTriangle, applyTetrahedron, tetrahedronEdge, tetrahedronFace, applyLocation, reducedAt, pointOf, reduceIn, projectOriginAndReduce, projectOrigin}
-use Rattle.simplex.proofs.Laws.{small}
 
 -- the locations of a simplex, by its dimension
 pub data SimplexHas : ℕ → Location → Type 0 where
@@ -123,16 +123,27 @@ location-applies s _ _ (SimplexHas.tetrahedron l h) = tetrahedron-applies s l h
 
 -- ---- both
 
-reduced-at : (s : VoronoiSimplex) (d : ℕ) (x : Located) → LocatedFits d x → reducedAt s x .projection ≡ pointOf x
-reduced-at s d _ (LocatedFits.at p l h) = rw (location-applies s d l h)
-reduced-at s d _ LocatedFits.refused = refl
+-- a location that was found is done
+pub data Applies (s : VoronoiSimplex) : Located → Type 0 where
+  at : (p : Vec3) (l : Location) → applyLocation s l .outcome ≡ Done → Applies s (Found.At p l)
+  refused : Applies s Found.Refused
+
+fitting-applies : (s : VoronoiSimplex) (d : ℕ) (x : Located) → LocatedFits d x → Applies s x
+fitting-applies s d _ (LocatedFits.at p l h) = Applies.at p l (location-applies s d l h)
+fitting-applies s d _ LocatedFits.refused = Applies.refused
+
+pub found-applies : (f : Format) (s : VoronoiSimplex) → s .dim ≤ 3 → Applies s (findLocation f s)
+found-applies f s h = fitting-applies s (s .dim) (findLocation f s) (location-fits f s h)
+
+reduced-at : (s : VoronoiSimplex) (x : Located) → reducedAt s x .projection ≡ pointOf x
+reduced-at s (Found.At p l) = refl
+reduced-at s Found.Refused = refl
 
 -- the reduction gives the projection, and is refused only where the projection is
 pub reduced-projection : (f : Format) (s : VoronoiSimplex) → projectOriginAndReduce f s .projection ≡ projectOrigin f s
 unfolding projectOriginAndReduce projectOrigin reduceIn
-reduced-projection f s = by (isSimplex s) (λ e. reduced-at s (s .dim) (findLocation f s) (location-fits f s (small s e .dimension)))
+reduced-projection f s = by (isSimplex s) (findLocation f s)
   where
-    by : (b : Bool) → (b ≡ true → reducedAt s (findLocation f s) .projection ≡ pointOf (findLocation f s))
-        → cond b (reducedAt s (findLocation f s)) (record { simplex = s; projection = Refused }) .projection ≡ cond b (pointOf (findLocation f s)) Refused
-    by true h = h refl
-    by false h = refl
+    by : (b : Bool) (x : Located) → cond b (reducedAt s x) (record { simplex = s; projection = Refused }) .projection ≡ cond b (pointOf x) Refused
+    by true x = reduced-at s x
+    by false x = refl

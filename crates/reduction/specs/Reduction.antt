@@ -27,8 +27,6 @@ use Rattle.reduction.specs.declared.location.Location.the-variants.{OnPo
 use Rattle.reduction.specs.declared.location.Located.{Located}
 use Rattle.reduction.specs.declared.location.Located.the-variants as Found
 use Rattle.simplex.specs.declared.operations.Altered.{Altered}
-use Rattle.simplex.specs.declared.operations.Outcome.{Outcome}
-use Rattle.simplex.specs.declared.operations.Outcome.the-variants as Ends
 use Rattle.reduction.specs.declared.Projected.{Projected}
 use Rattle.reduction.specs.declared.Projected.the-variants.{At, Refused}
 use Rattle.reduction.specs.declared.Reduced.{Reduced}
@@ -150,13 +148,8 @@ applyLocation s (OnTetrahedron l) = applyTetrahedron s l
 
 -- ---- both
 
--- the projected point of a reduction that was done
-abbrev pub projectedBy : Outcome → Vec3 → Projected
-projectedBy Ends.Done p = At p
-projectedBy Ends.Refused p = Refused
-
 abbrev pub reducedAt : VoronoiSimplex → Located → Reduced
-reducedAt s (Found.At p l) = let t = applyLocation s l in record { simplex = t .simplex; projection = projectedBy (t .outcome) p }
+reducedAt s (Found.At p l) = record { simplex = applyLocation s l .simplex; projection = At p }
 reducedAt s Found.Refused = record { simplex = s; projection = Refused }
 
 abbrev pub pointOf : Located → Projected

@@ -11,7 +11,6 @@ mod location;
 use applying::apply_location;
 use location::Located;
 use location::find_location;
-use simplex::Outcome;
 use simplex::VoronoiSimplex;
 use vector::Vec3;
 
@@ -26,24 +25,18 @@ pub struct Reduced {
     pub projection: Projected,
 }
 
-// The two halves in turn. What is refused hands the simplex back as it came in.
+// The two halves in turn. The location that was found for a simplex is always done (`found-applies`), so that what applying answers
+// is not looked at. What is refused hands the simplex back as it came in.
 fn reduce_in(s: VoronoiSimplex) -> Reduced
     ensures { λ r. ⌜ r ≡ reduceIn binary32 s ⌝ }
 {
     match find_location(s) {
         Located::At(point, location) => {
             let applied = apply_location(s, location);
-            let outcome = applied.outcome;
             let simplex = applied.simplex;
-            match outcome {
-                Outcome::Done => Reduced {
-                    simplex,
-                    projection: Projected::At(point),
-                },
-                Outcome::Refused => Reduced {
-                    simplex,
-                    projection: Projected::Refused,
-                },
+            Reduced {
+                simplex,
+                projection: Projected::At(point),
             }
         }
         Located::Refused => Reduced {

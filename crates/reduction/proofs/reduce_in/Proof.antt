@@ -6,15 +6,11 @@ use Rattle.reduction.proofs.reduce_in.Tie as tie
 
 returns : tie.Need-returns
 unfolding reduceIn
-returns c = simp (← c .before .before .before .before .before .before .before .find-location .ensures, ← c .before .before .before .apply-location .ensures, c .enum-told .given .1, c .before .before .before .before .before .point .given .1)
+returns c = simp (← c .before .before .before .before .before .find-location .ensures, ← c .before .apply-location .ensures, c .before .before .before .point .given .1)
 
 returns-2 : tie.Need-returns-2
 unfolding reduceIn
-returns-2 c = simp (← c .before .before .before .before .before .before .before .find-location .ensures, ← c .before .before .before .apply-location .ensures, c .enum-told2 .given .1, c .before .before .before .before .before .point .given .1)
-
-returns-3 : tie.Need-returns-3
-unfolding reduceIn
-returns-3 c = simp (← c .before .before .find-location .ensures, c .enum-told3 .given .1)
+returns-2 c = simp (← c .before .before .find-location .ensures, c .enum-told .given .1)
 
 pub reduce-in-spec : {M : Type 1} → statement M
-reduce-in-spec = tie.close (tie.spec (λ c κs. tt) (λ c. search needs) (λ c κs. tt) (λ c. search needs) (λ c. search needs) (λ c. search needs) returns returns-2 returns-3)
+reduce-in-spec = tie.close (tie.spec (λ c κs. tt) (λ c. search needs) (λ c κs. tt) (λ c. search needs) returns returns-2)
