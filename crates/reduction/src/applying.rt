@@ -1,17 +1,27 @@
-// What the simplex becomes at a location: the second half of `project_origin_and_reduce`.
+// What the simplex becomes at a location: the second half of `project_origin_and_reduce`. What is private here is called with a value
+// that is a simplex and with a location that it has: `apply_location` has tested both.
 ghost use mathlib.Core.Path.{_≡_};
+ghost use mathlib.Core.Bool.{true};
 ghost use Prim.Native.Nat.{_<_};
-ghost use Rattle.simplex.specs.Operations.{doneWith, refusedWith};
-ghost use Rattle.reduction.specs.Reduction.{swapped as swappedOf, overwriteIn, placeIn};
-ghost use Rattle.reduction.specs.Reduction.{toFirst, toVertex, toEdge, triangleEdge, edgeFirst, tetrahedronEdge, tetrahedronFace};
-ghost use Rattle.reduction.specs.Reduction.{applySegment, applyTriangle, applyTetrahedron, applyLocation};
+ghost use Rattle.simplex.specs.Simplex.{isSimplex, swapIn};
+ghost use Rattle.reduction.specs.Reduction.{overwriteIn, placeIn, toFirst, toVertex, toEdge};
+ghost use Rattle.reduction.specs.Reduction.{reduceSegment, triangleEdge, reduceTriangle, edgeFirst, tetrahedronEdge, tetrahedronFace, reduceTetrahedron};
+ghost use Rattle.reduction.specs.Reduction.{hasLocation, reduceTo, applyLocation};
 use crate::location::Location;
-use projection::SegmentPointLocation;
-use projection::TrianglePointLocation;
-use simplex::Altered;
-use simplex::Outcome;
 use simplex::VoronoiSimplex;
-use tetrahedron::TetrahedronPointLocation;
+
+// Of `apply_location`: the location is taken; refusal 7, the simplex has no such location; refusal 2, the value is no simplex.
+pub enum Application {
+    Taken,
+    NoSuchLocation,
+    Refused,
+}
+
+// What is refused hands the simplex back as it came in.
+pub struct Applied {
+    pub simplex: VoronoiSimplex,
+    pub outcome: Application,
+}
 
 // The last vertex is written over vertex i. The Rust does not swap here, so `prev_point` shows the new vertex.
 fn overwrite_in(s: VoronoiSimplex, i: usize) -> VoronoiSimplex
@@ -34,9 +44,10 @@ fn place_in(s: VoronoiSimplex, proj: [f32; 3], dim: usize) -> VoronoiSimplex
     t
 }
 
-// Two vertices change places. On a simplex and places that there are this is not refused (`swap-done`).
+// Two vertices change places. On a simplex and places that there are `swap` is done (`swap-done`), so its answer is not looked at.
 fn swapped(s: VoronoiSimplex, i: usize, j: usize) -> VoronoiSimplex
-    ensures { λ r. ⌜ r ≡ swappedOf s i j ⌝ }
+    requires { ⌜ (isSimplex s ≡ true) × (i < 4) × (j < 4) ⌝ }
+    ensures { λ r. ⌜ r ≡ swapIn s i j ⌝ }
 {
     let altered = s.swap(i, j);
     altered.simplex
@@ -53,6 +64,7 @@ fn to_first(s: VoronoiSimplex) -> VoronoiSimplex
 
 // Vertex i alone is left.
 fn to_vertex(s: VoronoiSimplex, i: usize) -> VoronoiSimplex
+    requires { ⌜ (isSimplex s ≡ true) × (i < 4) ⌝ }
     ensures { λ r. ⌜ r ≡ toVertex s i ⌝ }
 {
     to_first(swapped(s, 0, i))
@@ -68,43 +80,25 @@ fn to_edge(s: VoronoiSimplex, u: f32, v: f32, dim: usize) -> VoronoiSimplex
     place_in(s, weights, dim)
 }
 
-fn done(simplex: VoronoiSimplex) -> Altered
-    ensures { λ r. ⌜ r ≡ doneWith simplex ⌝ }
-{
-    Altered {
-        simplex,
-        outcome: Outcome::Done,
-    }
-}
-
-fn refused(simplex: VoronoiSimplex) -> Altered
-    ensures { λ r. ⌜ r ≡ refusedWith simplex ⌝ }
-{
-    Altered {
-        simplex,
-        outcome: Outcome::Refused,
-    }
-}
-
-fn apply_segment(s: VoronoiSimplex, location: SegmentPointLocation) -> Altered
-    ensures { λ r. ⌜ r ≡ applySegment s location ⌝ }
+fn reduce_segment(s: VoronoiSimplex, location: Location) -> VoronoiSimplex
+    requires { ⌜ isSimplex s ≡ true ⌝ }
+    ensures { λ r. ⌜ r ≡ reduceSegment s location ⌝ }
 {
     match location {
-        SegmentPointLocation::OnVertex(i) => {
+        Location::OnVertex(i) => {
             if i == 0 {
-                return done(to_first(s));
+                return to_first(s);
             }
-            if i == 1 {
-                return done(to_vertex(s, 1));
-            }
-            refused(s)
+            to_vertex(s, 1)
         }
-        SegmentPointLocation::OnEdge(u, v) => done(to_edge(s, u, v, s.dim)),
+        Location::OnEdge(_, u, v) => to_edge(s, u, v, s.dim),
+        _ => s,
     }
 }
 
 // Edge 1, from b to c, leaves c and b with the weights exchanged.
 fn triangle_edge(s: VoronoiSimplex, i: u32, u: f32, v: f32) -> VoronoiSimplex
+    requires { ⌜ isSimplex s ≡ true ⌝ }
     ensures { λ r. ⌜ r ≡ triangleEdge s i u v ⌝ }
 {
     if i == 0 {
@@ -113,30 +107,24 @@ fn triangle_edge(s: VoronoiSimplex, i: u32, u: f32, v: f32) -> VoronoiSimplex
     if i == 1 {
         return to_edge(swapped(s, 0, 2), v, u, 1);
     }
-    if i == 2 {
-        return to_edge(swapped(s, 1, 2), u, v, 1);
-    }
-    s
+    to_edge(swapped(s, 1, 2), u, v, 1)
 }
 
-fn apply_triangle(s: VoronoiSimplex, location: TrianglePointLocation) -> Altered
-    ensures { λ r. ⌜ r ≡ applyTriangle s location ⌝ }
+fn reduce_triangle(s: VoronoiSimplex, location: Location) -> VoronoiSimplex
+    requires { ⌜ (isSimplex s ≡ true) × (hasLocation 2 location ≡ true) ⌝ }
+    ensures { λ r. ⌜ r ≡ reduceTriangle s location ⌝ }
 {
     match location {
-        TrianglePointLocation::OnVertex(i) => {
-            if i < 4 {
-                return done(to_vertex(s, i as usize));
-            }
-            refused(s)
-        }
-        TrianglePointLocation::OnEdge(i, u, v) => done(triangle_edge(s, i, u, v)),
-        TrianglePointLocation::OnFace(_, u, v, w) => done(place_in(s, [u, v, w], s.dim)),
-        TrianglePointLocation::OnSolid => done(s),
+        Location::OnVertex(i) => to_vertex(s, i as usize),
+        Location::OnEdge(i, u, v) => triangle_edge(s, i, u, v),
+        Location::OnFace(_, u, v, w) => place_in(s, [u, v, w], s.dim),
+        Location::OnSolid => s,
     }
 }
 
 // The ends of edge i (ab, ac, ad, bc, bd, cd) come first.
 fn edge_first(s: VoronoiSimplex, i: u32) -> VoronoiSimplex
+    requires { ⌜ isSimplex s ≡ true ⌝ }
     ensures { λ r. ⌜ r ≡ edgeFirst s i ⌝ }
 {
     if i == 0 {
@@ -158,62 +146,95 @@ fn edge_first(s: VoronoiSimplex, i: u32) -> VoronoiSimplex
 }
 
 // The swap of bc and of bd turns the edge round, and the weights with it.
-fn tetrahedron_edge(s: VoronoiSimplex, i: u32, u: f32, v: f32) -> Altered
+fn tetrahedron_edge(s: VoronoiSimplex, i: u32, u: f32, v: f32) -> VoronoiSimplex
+    requires { ⌜ isSimplex s ≡ true ⌝ }
     ensures { λ r. ⌜ r ≡ tetrahedronEdge s i u v ⌝ }
 {
-    if 5 < i {
-        return refused(s);
-    }
     let t = edge_first(s, i);
     if (i == 3) | (i == 4) {
-        return done(to_edge(t, v, u, 1));
+        return to_edge(t, v, u, 1);
     }
-    done(to_edge(t, u, v, 1))
+    to_edge(t, u, v, 1)
 }
 
 // d is written over the corner that face i (abc, abd, acd, bcd) has not got, and the weights follow.
-fn tetrahedron_face(s: VoronoiSimplex, i: u32, u: f32, v: f32, w: f32) -> Altered
+fn tetrahedron_face(s: VoronoiSimplex, i: u32, u: f32, v: f32, w: f32) -> VoronoiSimplex
     ensures { λ r. ⌜ r ≡ tetrahedronFace s i u v w ⌝ }
 {
     if i == 0 {
-        return done(place_in(s, [u, v, w], 2));
+        return place_in(s, [u, v, w], 2);
     }
     if i == 1 {
-        return done(place_in(overwrite_in(s, 2), [u, v, w], 2));
+        return place_in(overwrite_in(s, 2), [u, v, w], 2);
     }
     if i == 2 {
-        return done(place_in(overwrite_in(s, 1), [u, w, v], 2));
+        return place_in(overwrite_in(s, 1), [u, w, v], 2);
     }
-    if i == 3 {
-        return done(place_in(overwrite_in(s, 0), [w, u, v], 2));
-    }
-    refused(s)
+    place_in(overwrite_in(s, 0), [w, u, v], 2)
 }
 
-fn apply_tetrahedron(s: VoronoiSimplex, location: TetrahedronPointLocation) -> Altered
-    ensures { λ r. ⌜ r ≡ applyTetrahedron s location ⌝ }
+fn reduce_tetrahedron(s: VoronoiSimplex, location: Location) -> VoronoiSimplex
+    requires { ⌜ (isSimplex s ≡ true) × (hasLocation 3 location ≡ true) ⌝ }
+    ensures { λ r. ⌜ r ≡ reduceTetrahedron s location ⌝ }
 {
     match location {
-        TetrahedronPointLocation::OnVertex(i) => {
-            if i < 4 {
-                return done(to_vertex(s, i as usize));
-            }
-            refused(s)
+        Location::OnVertex(i) => to_vertex(s, i as usize),
+        Location::OnEdge(i, u, v) => tetrahedron_edge(s, i, u, v),
+        Location::OnFace(i, u, v, w) => tetrahedron_face(s, i, u, v, w),
+        Location::OnSolid => s,
+    }
+}
+
+// By the dimension.
+fn reduce_to(s: VoronoiSimplex, location: Location) -> VoronoiSimplex
+    requires { ⌜ (isSimplex s ≡ true) × (hasLocation (s .dim) location ≡ true) ⌝ }
+    ensures { λ r. ⌜ r ≡ reduceTo s location ⌝ }
+{
+    if s.dim == 0 {
+        return to_first(s);
+    }
+    if s.dim == 1 {
+        return reduce_segment(s, location);
+    }
+    if s.dim == 2 {
+        return reduce_triangle(s, location);
+    }
+    reduce_tetrahedron(s, location)
+}
+
+// Whether a simplex of dimension dim has the location.
+fn has_location(dim: usize, location: Location) -> bool
+    ensures { λ r. ⌜ r ≡ hasLocation dim location ⌝ }
+{
+    match location {
+        Location::OnVertex(i) => i as usize <= dim,
+        Location::OnEdge(i, _, _) => {
+            ((dim == 1) & (i < 1)) | ((dim == 2) & (i < 3)) | ((dim == 3) & (i < 6))
         }
-        TetrahedronPointLocation::OnEdge(i, u, v) => tetrahedron_edge(s, i, u, v),
-        TetrahedronPointLocation::OnFace(i, u, v, w) => tetrahedron_face(s, i, u, v, w),
-        TetrahedronPointLocation::OnSolid => done(s),
+        Location::OnFace(i, _, _, _) => (dim == 2) | ((dim == 3) & (i < 4)),
+        Location::OnSolid => (dim == 2) | (dim == 3),
     }
 }
 
-// The simplex reduced to a location: refused where the Rust has `unreachable!` or an index out of range.
-pub fn apply_location(s: VoronoiSimplex, location: Location) -> Altered
-    ensures { λ r. ⌜ r ≡ applyLocation s location ⌝ }
+// The simplex reduced to a location. Whether the value is a simplex is tested before all else.
+pub fn apply_location(simplex: VoronoiSimplex, location: Location) -> Applied
+    ensures { λ r. ⌜ r ≡ applyLocation simplex location ⌝ }
 {
-    match location {
-        Location::OnPoint => done(to_first(s)),
-        Location::OnSegment(l) => apply_segment(s, l),
-        Location::OnTriangle(l) => apply_triangle(s, l),
-        Location::OnTetrahedron(l) => apply_tetrahedron(s, l),
+    if simplex.is_simplex() {
+        if has_location(simplex.dim, location) {
+            let smaller = reduce_to(simplex, location);
+            return Applied {
+                simplex: smaller,
+                outcome: Application::Taken,
+            };
+        }
+        return Applied {
+            simplex,
+            outcome: Application::NoSuchLocation,
+        };
+    }
+    Applied {
+        simplex,
+        outcome: Application::Refused,
     }
 }
