@@ -1,5 +1,6 @@
--- The swaps of a reduction are never refused: on a simplex and places that there are, `swap` is done (`swap-done`), and leaves a simplex for the next (`swap-keeps`). Assumes nothing.
-use mathlib.Core.Path.{_≡_, ap, _∙_}
+-- The swaps of a reduction are never refused: on a simplex and places that there are, `swap` is done (`swap-done`) and exchanges the two (`swap-is`), and what it leaves is a simplex
+-- for the next (`swap-keeps`). Assumes nothing.
+use mathlib.Core.Path.{_≡_, ap}
 use mathlib.Core.Bool.{Bool, true, _&&_}
 use mathlib.Core.List.{List, [], _∷_}
 use Prim.Native.Nat.{ℕ, zero, suc, _≤_, _<_}
@@ -12,7 +13,6 @@ use Rattle.simplex.specs.declared.operations.Outcome.the-variants.{Done}
 use Rattle.simplex.specs.Simplex.{isSimplex, swapIn}
 use Rattle.simplex.specs.Operations.{alteredOr, swapSimplex}
 use Rattle.simplex.proofs.Laws.{Small, small}
-use Rattle.reduction.specs.Reduction.{swapped}
 
 -- the test of `swap`
 tested : (s : VoronoiSimplex) (i j : ℕ) → isSimplex s ≡ true → i < 4 → j < 4 → isSimplex s && ltb i 4 && ltb j 4 ≡ true
@@ -52,10 +52,10 @@ swap-small s i j li lj h =
       place = λ k lk. still-small (set l i (getD l j 0)) j (getD l i 0) k (h .place i li) (still-small l i (getD l j 0) k (h .place j lj) (h .place k lk));
     }
 
--- what is left is the simplex with the two exchanged
-swap-is : (s : VoronoiSimplex) (i j : ℕ) → isSimplex s ≡ true → i < 4 → j < 4 → swapped s i j ≡ swapIn s i j
-unfolding swapped swapSimplex
+-- what is left is the simplex with the two exchanged, and a simplex
+pub swap-is : (s : VoronoiSimplex) (i j : ℕ) → isSimplex s ≡ true → i < 4 → j < 4 → swapSimplex s i j .simplex ≡ swapIn s i j
+unfolding swapSimplex
 swap-is s i j h li lj = ap (λ (b : Bool). alteredOr b s (swapIn s i j) .simplex) (tested s i j h li lj)
 
-pub swap-keeps : (s : VoronoiSimplex) (i j : ℕ) → isSimplex s ≡ true → i < 4 → j < 4 → isSimplex (swapped s i j) ≡ true
-swap-keeps s i j h li lj = ap isSimplex (swap-is s i j h li lj) ∙ is-small (swapIn s i j) (swap-small s i j li lj (small s h))
+pub swap-keeps : (s : VoronoiSimplex) (i j : ℕ) → isSimplex s ≡ true → i < 4 → j < 4 → isSimplex (swapIn s i j) ≡ true
+swap-keeps s i j h li lj = is-small (swapIn s i j) (swap-small s i j li lj (small s h))

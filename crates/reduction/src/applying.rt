@@ -92,7 +92,8 @@ fn reduce_segment(s: VoronoiSimplex, location: Location) -> VoronoiSimplex
             to_vertex(s, 1)
         }
         Location::OnEdge(_, u, v) => to_edge(s, u, v, s.dim),
-        _ => s,
+        Location::OnFace(_, _, _, _) => s,
+        Location::OnSolid => s,
     }
 }
 

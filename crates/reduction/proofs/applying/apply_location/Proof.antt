@@ -1,24 +1,23 @@
--- `apply_location` returns `applyLocation`, dimension by dimension.
-use borrow.Author.Needs.{needs}
+-- `apply_location` returns `applyLocation`: the value and the location are tested, then it is reduced.
+use mathlib.Core.Path.{sym, _∙_}
 use Rattle.reduction.specs.Reduction.{applyLocation}
 use Rattle.reduction.proofs.applying.apply_location.Statement.{statement}
 use Rattle.reduction.proofs.applying.apply_location.Tie as tie
 
+reduce-to-requires : tie.Need-reduce-to-requires
+reduce-to-requires c κs = (sym (c .before .before .before .is-simplex .ensures) ∙ c .before .before .if1 .taken, sym (c .before .has-location .ensures) ∙ c .if2 .taken)
+
 returns : tie.Need-returns
 unfolding applyLocation
-returns c = simp (← c .before .to-first .ensures, ← c .done .ensures, c .before .before .enum-told .given .1)
+returns c = simp (← c .before .before .before .before .is-simplex .ensures, ← c .before .before .has-location .ensures, ← c .reduce-to .ensures, c .before .if2 .taken, c .before .before .before .if1 .taken)
 
 returns-2 : tie.Need-returns-2
 unfolding applyLocation
-returns-2 c = simp (← c .apply-segment .ensures, c .before .before .location .given .1)
+returns-2 c = simp (← c .before .before .before .is-simplex .ensures, ← c .before .has-location .ensures, c .if2 .left, c .before .before .if1 .taken)
 
 returns-3 : tie.Need-returns-3
 unfolding applyLocation
-returns-3 c = simp (← c .apply-triangle .ensures, c .before .before .location2 .given .1)
-
-returns-4 : tie.Need-returns-4
-unfolding applyLocation
-returns-4 c = simp (← c .apply-tetrahedron .ensures, c .before .before .location3 .given .1)
+returns-3 c = simp (← c .before .is-simplex .ensures, c .if1 .left)
 
 pub apply-location-spec : {M : Type 1} → statement M
-apply-location-spec = tie.close (tie.spec (λ c. search needs) (λ c κs. tt) (λ c κs. tt) (λ c. search needs) (λ c κs. tt) (λ c. search needs) (λ c κs. tt) (λ c. search needs) (λ c κs. tt) returns returns-2 returns-3 returns-4)
+apply-location-spec = tie.close (tie.spec (λ c κs. tt) (λ c κs. tt) reduce-to-requires returns returns-2 returns-3)

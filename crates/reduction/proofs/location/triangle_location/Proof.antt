@@ -1,50 +1,24 @@
+-- `triangle_location` returns `triangleLocation`, case by case.
 use borrow.Author.Needs.{needs}
+use Rattle.reduction.specs.Reduction.{triangleLocation}
 use Rattle.reduction.proofs.location.triangle_location.Statement.{statement}
 use Rattle.reduction.proofs.location.triangle_location.Tie as tie
-use Rattle.reduction.proofs.location.triangle_location.Reads as reads
-use Rattle.reduction.proofs.location.triangle_location.Lts as lts
 
--- src/location.rt:45:41
-enum-known-location : tie.Need-enum-known-location
-enum-known-location c = search needs
-
--- src/location.rt:46:39
-enum-known-location-2 : tie.Need-enum-known-location-2
-enum-known-location-2 c = search needs
-
--- src/location.rt:47:39
-enum-known-location-3 : tie.Need-enum-known-location-3
-enum-known-location-3 c = search needs
-
--- src/location.rt:48:43
-enum-told : tie.Need-enum-told
-enum-told c = search needs
-
--- src/location.rt:41:1
 returns : tie.Need-returns
-returns c = ?
+unfolding triangleLocation
+returns c = simp (c .before .location .given .1)
 
--- src/location.rt:41:1
 returns-2 : tie.Need-returns-2
-returns-2 c = ?
+unfolding triangleLocation
+returns-2 c = simp (c .before .location2 .given .1)
 
--- src/location.rt:41:1
 returns-3 : tie.Need-returns-3
-returns-3 c = ?
+unfolding triangleLocation
+returns-3 c = simp (c .before .location3 .given .1)
 
--- src/location.rt:41:1
 returns-4 : tie.Need-returns-4
-returns-4 c = ?
+unfolding triangleLocation
+returns-4 c = simp (c .enum-told .given .1)
 
 pub triangle-location-spec : {M : Type 1} → statement M
-triangle-location-spec =
-    tie.close
-    (tie.spec
-    enum-known-location
-    enum-known-location-2
-    enum-known-location-3
-    enum-told
-    returns
-    returns-2
-    returns-3
-    returns-4)
+triangle-location-spec = tie.close (tie.spec (λ c. search needs) (λ c. search needs) (λ c. search needs) (λ c. search needs) returns returns-2 returns-3 returns-4)
