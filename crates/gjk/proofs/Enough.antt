@@ -21,8 +21,8 @@ use Rattle.shape.specs.declared.vertex.Vertex.{Vertex}
 use Rattle.simplex.specs.declared.simplex.VoronoiSimplex.{VoronoiSimplex}
 use Rattle.simplex.specs.declared.operations.Answer.{Answer}
 use Rattle.simplex.specs.declared.operations.Answer.the-variants as Added
-use Rattle.reduction.specs.declared.Projected.{Projected}
-use Rattle.reduction.specs.declared.Projected.the-variants as Projection
+use Rattle.reduction.specs.declared.location.Projected.{Projected}
+use Rattle.reduction.specs.declared.location.Projected.the-variants as Projection
 use Rattle.simplex.specs.Operations.{addPoint}
 use Rattle.reduction.specs.Reduction.{projectOriginAndReduce}
 use Rattle.gjk.specs.declared.rounds.GJKResult.{GJKResult}
@@ -81,7 +81,7 @@ first-round f s r h = let t = projectOriginAndReduce f s in go (t .simplex) (t .
     within s proj Direction.None h = no-end Intersection r h
 
     go : (s : VoronoiSimplex) (p : Projected) → startAt f s p .next ≡ Onward r → (r .niter ≡ 0) × (r .«nb_perturbs» ≡ 0)
-    go s (Projection.At proj) h = within s proj (tryNormalizeV f proj) h
+    go s (Projection.At proj location) h = within s proj (tryNormalizeV f proj) h
     go s Projection.Refused h = no-end Refused r h
 
 pub few-first : (f : Format) (s : VoronoiSimplex) (r : Round) → startOf f s .next ≡ Onward r → r .niter < 100
@@ -101,7 +101,7 @@ module _ (f : Format) (k : Search) where
   reduced-step : (s : VoronoiSimplex) (p : Projected) (r q : Round) (dir : Vec3) (m : Float) → reducedTo f k s p r dir m .next ≡ Onward q → Step r q
   unfolding roundAfter
   reduced-step s Projection.Refused r q dir m h = no-end _ q h
-  reduced-step s (Projection.At proj) r q dir m h = go (eqb (s .dim) 3) (le (epsTol f) m) (eqb (r .niter + 1) 100) _ _ _ refl h
+  reduced-step s (Projection.At proj location) r q dir m h = go (eqb (s .dim) 3) (le (epsTol f) m) (eqb (r .niter + 1) 100) _ _ _ refl h
     where
       go : (d b l : Bool) (x y z : GJKResult) → eqb (r .niter + 1) 100 ≡ l → cond d (cond b (endedWith s x) (endedWith s y)) (cond l (endedWith s z) (onwardWith s (roundAfter r proj dir))) .next ≡ Onward q → Step r q
       go true true l x y z e h = no-end x q h

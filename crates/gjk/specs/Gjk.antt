@@ -21,8 +21,8 @@ use Rattle.shape.specs.Support.{fromShapes}
 use Rattle.simplex.specs.declared.simplex.VoronoiSimplex.{VoronoiSimplex}
 use Rattle.simplex.specs.declared.operations.Answer.{Answer}
 use Rattle.simplex.specs.declared.operations.Answer.the-variants as Added
-use Rattle.reduction.specs.declared.Projected.{Projected}
-use Rattle.reduction.specs.declared.Projected.the-variants as Projection
+use Rattle.reduction.specs.declared.location.Projected.{Projected}
+use Rattle.reduction.specs.declared.location.Projected.the-variants as Projection
 use Rattle.simplex.specs.Operations.{addPoint}
 use Rattle.reduction.specs.Reduction.{projectOriginAndReduce}
 use Rattle.witnesses.specs.declared.Witnesses.{Witnesses}
@@ -155,7 +155,7 @@ module _ (f : Format) where
 
   -- in dimension 3 the origin is inside, or the bound says that it is not; else `niter += 1; if niter == 100`
   abbrev pub reducedTo : Search → VoronoiSimplex → Projected → Round → Vec3 → Float → Turn
-  reducedTo k s (Projection.At proj) r dir minBound =
+  reducedTo k s (Projection.At proj location) r dir minBound =
       cond (eqb (s .dim) 3)
       (cond (le (epsTol f) minBound) (endedWith s (apartBy (k .exact) s true dir)) (endedWith s Intersection))
       (cond (eqb (r .niter + 1) 100) (endedWith s (NoIntersection xV)) (onwardWith s (roundAfter r proj dir)))
@@ -243,7 +243,7 @@ module _ (f : Format) where
   startIn s proj Unit.None = endedWith s Intersection
 
   abbrev pub startAt : VoronoiSimplex → Projected → Turn
-  startAt s (Projection.At proj) = startIn s proj (tryNormalizeV f proj)
+  startAt s (Projection.At proj location) = startIn s proj (tryNormalizeV f proj)
   startAt s Projection.Refused = endedWith s Refused
 
   unfoldable pub startOf : VoronoiSimplex → Turn

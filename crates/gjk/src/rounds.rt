@@ -1,4 +1,5 @@
-// `closest_points` of gjk.rs: the start, the rounds and their ways out.
+// `closest_points` of gjk.rs: the start, the rounds and their ways out. A simplex is reduced by `project_origin` and `apply_location` in turn:
+// a location that was found for a simplex is always taken, so the answer of applying it is not looked at (`both-in-turn` of `reduction`).
 ghost use Prim.Native.Nat.{_<_};
 ghost use mathlib.Core.Path.{_≡_};
 ghost use lib.Ieee.{binary32};
@@ -130,12 +131,12 @@ fn advanced_turn(q: Query, simplex: VoronoiSimplex, r: Round, dir: Vec3, min_bou
     requires { ⌜ r .niter < 100 ⌝ }
     ensures { λ t. ⌜ t ≡ advanced binary32 (searchOf q) simplex r dir «min_bound» ⌝ }
 {
-    let reduced = reduction::project_origin_and_reduce(simplex);
-    let smaller = reduced.simplex;
-    let projection = reduced.projection;
-    let Projected::At(proj) = projection else {
-        return ended(smaller, GJKResult::Refused);
+    let found = reduction::project_origin(simplex);
+    let Projected::At(proj, location) = found else {
+        return ended(simplex, GJKResult::Refused);
     };
+    let applied = reduction::apply_location(simplex, location);
+    let smaller = applied.simplex;
     if smaller.dim == 3 {
         if min_bound >= number::eps_tol() {
             return ended(smaller, apart_by(q.exact_dist, smaller, true, dir));
@@ -296,12 +297,12 @@ fn run_of(q: Query, simplex: VoronoiSimplex, start: Round) -> Gjk
 fn start_of(simplex: VoronoiSimplex) -> Turn
     ensures { λ t. ⌜ t ≡ startOf binary32 simplex ⌝ }
 {
-    let reduced = reduction::project_origin_and_reduce(simplex);
-    let smaller = reduced.simplex;
-    let projection = reduced.projection;
-    let Projected::At(proj) = projection else {
-        return ended(smaller, GJKResult::Refused);
+    let found = reduction::project_origin(simplex);
+    let Projected::At(proj, location) = found else {
+        return ended(simplex, GJKResult::Refused);
     };
+    let applied = reduction::apply_location(simplex, location);
+    let smaller = applied.simplex;
     let unit = proj.try_normalize();
     let MaybeVec3::Some(proj_dir) = unit else {
         return ended(smaller, GJKResult::Intersection);
