@@ -3,7 +3,10 @@
 ghost use mathlib.Core.Path.{_≡_};
 ghost use lib.Ieee.{binary32};
 ghost use Rattle.simplex.specs.Operations.{resetSimplex, addPoint};
-ghost use Rattle.reduction.specs.Reduction.{projectOriginAndReduce};
+ghost use Rattle.reduction.specs.Reduction.{projectOrigin, applyLocation, projectOriginAndReduce};
+use crate::turns::in_turn;
+use reduction::Application;
+use reduction::Location;
 use reduction::Projected;
 use shape::Vertex;
 use simplex::Answer;
@@ -28,11 +31,27 @@ pub fn add_point(s: &mut VoronoiSimplex, pt: Vertex) -> Answer
     r.answer
 }
 
-// Projects the origin on the simplex, and reduces it to the part that holds the projection.
+// Where the origin projects on the simplex, which stays as it is.
+pub fn project_origin(s: &VoronoiSimplex) -> Projected
+    ensures { λ r. ⌜ r ≡ projectOrigin binary32 (now (s .entry)) ⌝ }
+{
+    reduction::project_origin(*s)
+}
+
+// Reduces the simplex to a location.
+pub fn apply_location(s: &mut VoronoiSimplex, location: Location) -> Application
+    ensures { λ r. ⌜ (now (s .exit) ≡ applyLocation (now (s .entry)) location .simplex) × (r ≡ applyLocation (now (s .entry)) location .outcome) ⌝ }
+{
+    let r = reduction::apply_location(*s, location);
+    *s = r.simplex;
+    r.outcome
+}
+
+// Both in turn: projects the origin on the simplex, and reduces it to the part that holds the projection.
 pub fn project_origin_and_reduce(s: &mut VoronoiSimplex) -> Projected
     ensures { λ r. ⌜ (now (s .exit) ≡ projectOriginAndReduce binary32 (now (s .entry)) .simplex) × (r ≡ projectOriginAndReduce binary32 (now (s .entry)) .projection) ⌝ }
 {
-    let r = reduction::project_origin_and_reduce(*s);
+    let r = in_turn(*s);
     *s = r.simplex;
     r.projection
 }

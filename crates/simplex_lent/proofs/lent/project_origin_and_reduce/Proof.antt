@@ -41,18 +41,18 @@ use denote.Triple.Clauses.{ensured, lasts}
 use lib.Ieee.{binary32}
 use Rattle.reduction.specs.Reduction.{projectOriginAndReduce}
 use Rattle.simplex.specs.declared.simplex.VoronoiSimplex.{VoronoiSimplex}
-use Rattle.reduction.specs.declared.Projected.{Projected}
-use Rattle.reduction.specs.declared.Reduced.{Reduced}
-use Rattle.reduction.proofs.Projected as E
-use Rattle.reduction.proofs.Projected.Laws as E′
-use Rattle.reduction.proofs.Reduced as B
-use Rattle.reduction.proofs.Reduced.Laws as B′
+use Rattle.reduction.specs.declared.location.Projected.{Projected}
+use Rattle.reduction.proofs.location.Projected as E
+use Rattle.reduction.proofs.location.Projected.Laws as E′
+use Rattle.simplex_lent.specs.declared.turns.Reduced.{Reduced}
+use Rattle.simplex_lent.proofs.turns.Reduced as B
+use Rattle.simplex_lent.proofs.turns.Reduced.Laws as B′
 use Rattle.simplex.proofs.simplex.VoronoiSimplex as T
 use Rattle.simplex.proofs.simplex.VoronoiSimplex.Laws as T′
-use Rattle.reduction.proofs.project_origin_and_reduce as core
-use Rattle.reduction.proofs.project_origin_and_reduce.Symbol as core-def
-use Rattle.reduction.proofs.project_origin_and_reduce.Symbol.{name as #by-value}
-use Rattle.reduction.proofs.project_origin_and_reduce.Met as core-thm
+use Rattle.simplex_lent.proofs.turns.in_turn as core
+use Rattle.simplex_lent.proofs.turns.in_turn.Symbol as core-def
+use Rattle.simplex_lent.proofs.turns.in_turn.Symbol.{name as #by-value}
+use Rattle.simplex_lent.proofs.turns.in_turn.Met as core-thm
 use Rattle.simplex_lent.proofs.lent.project_origin_and_reduce.Key.{name as #lent}
 use Rattle.simplex_lent.proofs.lent.project_origin_and_reduce as lent
 use Rattle.simplex_lent.proofs.lent.project_origin_and_reduce.Statement as stated
@@ -64,6 +64,10 @@ R = T.the-row
 
 abbrev mach : VoronoiSimplex → Val
 mach h = LL.tuple-val T.the-type T′.the-laws (T.the-type .to h)
+
+-- what the operation by value says of its result
+abbrev Both : VoronoiSimplex → Reduced → Type 0
+Both h r = (r .simplex ≡ projectOriginAndReduce binary32 h .simplex) × (r .projection ≡ projectOriginAndReduce binary32 h .projection)
 
 -- the machine value of the answer
 abbrev ans : Projected → Val
@@ -78,8 +82,8 @@ module _ {M : Type 1} (𝓤 : URA M) (H : Heap 𝓤) (A : Atoms 𝓤) (at-mem : 
   Core = tripleOf 𝓤 H A core.signature (core.spec 𝓤 H A at-mem run)
 
   -- of what the operation by value ensures, the clause alone: it has no `&mut`, so what is said of last values is dropped
-  core-says : (h : VoronoiSimplex) (r : Reduced) → ent 𝓤 (ensured 𝓤 H A core.ended (core.clauses 𝓤 H A at-mem run) tt (h, tt) tt r) (fact 𝓤 (r ≡ projectOriginAndReduce binary32 h))
-  core-says h r = exE 𝓤 _ (λ ws. snd∗ 𝓤 (sem 𝓤 H A (lasts core.ended tt (h, tt) ws)) (fact 𝓤 (r ≡ projectOriginAndReduce binary32 h)))
+  core-says : (h : VoronoiSimplex) (r : Reduced) → ent 𝓤 (ensured 𝓤 H A core.ended (core.clauses 𝓤 H A at-mem run) tt (h, tt) tt r) (fact 𝓤 (Both h r))
+  core-says h r = exE 𝓤 _ (λ ws. snd∗ 𝓤 (sem 𝓤 H A (lasts core.ended tt (h, tt) ws)) (fact 𝓤 (Both h r)))
 
 module _ {M : Type 1} (𝓤 : URA M) (H : Heap 𝓤) (A : Atoms 𝓤) (W : Given 𝓤 H A) (at-mem : Memory → SProp 𝓤) (run : Routine → Fun 𝓤) (κ : Lft) (q : Share) (b o : ℕ) (γ : GName) (h : VoronoiSimplex) where
   abbrev Arg : Type 0
@@ -94,10 +98,10 @@ module _ {M : Type 1} (𝓤 : URA M) (H : Heap 𝓤) (A : Atoms 𝓤) (W : Given
   abbrev Post : Val → SProp 𝓤
   Post = walkOf 𝓤 H A lent.ended stayed (lent.clauses 𝓤 H A at-mem run) .post (((κ, tt), (q, tt), tt, x, at), tt)
 
-  exits : (r : Reduced) → r ≡ projectOriginAndReduce binary32 h → Is E.the-row (r .projection) (ans (r .projection) ∷ []) → ent 𝓤 (⋆ 𝓤 H A (‵ (fobs γ (R .coded .code (r .simplex))) ∷ ‵ (fbor κ (Body (mem R) b o γ)) ∷ ‵ (flft κ q) ∷ [])) (Post (ans (r .projection)))
+  exits : (r : Reduced) → Both h r → Is E.the-row (r .projection) (ans (r .projection) ∷ []) → ent 𝓤 (⋆ 𝓤 H A (‵ (fobs γ (R .coded .code (r .simplex))) ∷ ‵ (fbor κ (Body (mem R) b o γ)) ∷ ‵ (flft κ q) ∷ [])) (Post (ans (r .projection)))
   exits r e is =
       qed W (‵ (fobs γ (R .coded .code (r .simplex))) ∷ ‵ (fbor κ (Body (mem R) b o γ)) ∷ ‵ (flft κ q) ∷ []) ∵
-      suffices ! _ (ends-at 𝓤 H A lent.ended stayed (lent.clauses 𝓤 H A at-mem run) W (((κ, tt), (q, tt), tt, x, at), tt) (ans (r .projection)) (r .projection) (r .simplex, tt) (tt, tt)) $ says ! (ap (λ t. t .simplex) e, ap (λ t. t .projection) e) $ nothing ! $ move ! (3 ∷ 0 ∷ []) $ join ! $
+      suffices ! _ (ends-at 𝓤 H A lent.ended stayed (lent.clauses 𝓤 H A at-mem run) W (((κ, tt), (q, tt), tt, x, at), tt) (ans (r .projection)) (r .projection) (r .simplex, tt) (tt, tt)) $ says ! e $ nothing ! $ move ! (3 ∷ 0 ∷ []) $ join ! $
       frame ! $ feqI ! (List Val) (vptr b o ∷ []) (vptr b o ∷ []) refl $ fjoin3 ! $ nothing ! $ move ! (1 ∷ 0 ∷ []) $ fjoin ! $
       owned ! E.the-row (Is E.the-row) (EL.makes E.the-type E′.the-plain 𝓤 H A) (r .projection) _ is $ move ! (1 ∷ 0 ∷ []) $ done !
 
@@ -132,7 +136,7 @@ module _ {M : Type 1} (𝓤 : URA M) (H : Heap 𝓤) (A : Atoms 𝓤) (W : Given
         use0 W (raw (Core 𝓤 H A at-mem run .pre to-core)) (goes-core was) $
         calls-at ! fm (Core 𝓤 H A at-mem run) known to-core (and-then ! (load ! (from ! (stop !)) (look ! 7 refl)) (no-more !)) (λ w.
         use1 W (later (some (λ (r : Reduced). (‵ ftrue ⊛ ‵ (B.the-row .own r (w ∷ []))) ⊛ raw (ensured 𝓤 H A core.ended (core.clauses 𝓤 H A at-mem run) tt (h, tt) tt r)))) (id⊢ 𝓤 _) $ await ! tt $ pick ! (λ r.
-        split ! $ move ! (1 ∷ []) $ use1 W (raw (fact 𝓤 (r ≡ projectOriginAndReduce binary32 h))) (core-says 𝓤 H A at-mem run h r) $ heard ! (r ≡ projectOriginAndReduce binary32 h) (λ e. split ! $ drop ! $
+        split ! $ move ! (1 ∷ []) $ use1 W (raw (fact 𝓤 (Both h r))) (core-says 𝓤 H A at-mem run h r) $ heard ! (Both h r) (λ e. split ! $ drop ! $
         facts ! B.the-row (Is B.the-row) (shows 𝓤 H A B.the-row) r (w ∷ []) (λ is.
         -- [the simplex's cell; the open borrow; obs; auth; true; true; _3; …; room for _2; …; _1; …; room for _0; …]
         land ! (from ! (stop !)) (init ! 8 refl (LL.lawful B.the-type B′.the-laws 𝓤 H A W .typed r _ is .0)) $
@@ -164,4 +168,4 @@ project-origin-and-reduce-spec 𝓤 H 𝓜 𝓖 𝓡 =
     entered 𝓤 H (tripleOf 𝓤 H (𝓖 .A) lent.signature (lent.spec 𝓤 H (𝓖 .A) (𝓜 .mem) (𝓡 .run)))
     (tables 𝓤 H 𝓜 𝓡 code.env .C) (tables 𝓤 H 𝓜 𝓡 code.env .Λ) #lent code.function (code.unfolded 𝓤 H 𝓜 𝓡)
     (lent-meets 𝓤 H (𝓖 .A) (givenOf 𝓤 H 𝓜 𝓖) (𝓜 .mem) (𝓡 .run) (tablesOf 𝓤 H 𝓜 (tables 𝓤 H 𝓜 𝓡 code.env))
-    (cited 𝓤 H (Core 𝓤 H (𝓖 .A) (𝓜 .mem) (𝓡 .run)) 𝓜 𝓡 code.env #by-value core-def.routine code.calls-reduction·project-origin-and-reduce (core-thm.met 𝓤 H 𝓜 𝓖 𝓡)))
+    (cited 𝓤 H (Core 𝓤 H (𝓖 .A) (𝓜 .mem) (𝓡 .run)) 𝓜 𝓡 code.env #by-value core-def.routine code.calls-simplex-lent·turns·in-turn (core-thm.met 𝓤 H 𝓜 𝓖 𝓡)))
