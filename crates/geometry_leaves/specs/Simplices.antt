@@ -3,21 +3,16 @@ use Prim.Native.Nat.{ℕ}
 use mathlib.Core.Bool.{cond}
 use Rattle.simplex.specs.declared.operations.Altered.{Altered}
 use Rattle.simplex.specs.declared.operations.Added.{Added}
-use Rattle.reduction.specs.declared.Reduced.{Reduced}
 use Rattle.simplex.specs.declared.operations.Answer.{Answer}
 use Rattle.simplex.specs.declared.operations.Number.{Number}
 use Rattle.simplex.specs.declared.operations.Size.{Size}
 use Rattle.simplex.specs.declared.operations.Corner.{Corner}
-use Rattle.reduction.specs.declared.Projected.{Projected}
 use Rattle.simplex.specs.Operations.{outcomeNumber, answerNumber, answerValue, numberNumber, numberValue, sizeNumber, sizeValue, cornerNumber, cornerValue}
-use Rattle.reduction.specs.Reduction.{projectedNumber, projectedValue}
 use Rattle.geometry_leaves.specs.Refused.{refusedBy}
 use Rattle.geometry_leaves.specs.declared.simplices.Changed.{Changed}
 use Rattle.geometry_leaves.specs.declared.simplices.MaybeNumber.{MaybeNumber}
 use Rattle.geometry_leaves.specs.declared.simplices.MaybeSize.{MaybeSize}
 use Rattle.geometry_leaves.specs.declared.simplices.MaybeVertex.{MaybeVertex}
-use Rattle.geometry_leaves.specs.declared.simplices.MaybePoint.{MaybePoint}
-use Rattle.geometry_leaves.specs.declared.simplices.Projection.{Projection}
 
 -- C has one number for a yes or no: document 01's, 0 or refusal 2, and 1 in place of the 0 of a yes
 unfoldable pub answerOver : Answer → ℕ
@@ -39,9 +34,3 @@ sizeOver x = record { refused = refusedBy (sizeNumber x); is = sizeValue x }
 
 unfoldable pub cornerOver : Corner → MaybeVertex
 cornerOver x = record { refused = refusedBy (cornerNumber x); is = cornerValue x }
-
-unfoldable pub projectedOver : Projected → MaybePoint
-projectedOver x = record { refused = refusedBy (projectedNumber x); is = projectedValue x }
-
-unfoldable pub reducedOver : Reduced → Projection
-reducedOver r = record { simplex = r .simplex; projection = projectedOver (r .projection) }

@@ -38,7 +38,7 @@ pub struct Weights {
     pub weights: Vec3,
 }
 
-fn placed_at(point: Vec3, kind: u32, number: u32, weights: Vec3) -> Placed
+pub(crate) fn placed_at(point: Vec3, kind: u32, number: u32, weights: Vec3) -> Placed
     ensures { λ r. ⌜ r ≡ placedBy 0 point kind number weights ⌝ }
 {
     Placed {
@@ -50,7 +50,7 @@ fn placed_at(point: Vec3, kind: u32, number: u32, weights: Vec3) -> Placed
     }
 }
 
-fn not_placed() -> Placed
+pub(crate) fn not_placed() -> Placed
     ensures { λ r. ⌜ r ≡ placedBy 2 zeroV 0 0 zeroV ⌝ }
 {
     Placed {

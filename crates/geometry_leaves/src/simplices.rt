@@ -4,10 +4,7 @@ ghost use lib.Ieee.{binary32};
 ghost use Rattle.simplex.specs.Simplex.{newSimplex, isSimplex};
 ghost use Rattle.simplex.specs.Operations.{swapSimplex, resetSimplex, addPoint, projCoord, cornerPoint, prevProjCoord, prevPoint};
 ghost use Rattle.simplex.specs.Operations.{containsPoint, dimensionOf, prevDimensionOf, maxSqLen, modifyPnts, outcomeNumber};
-ghost use Rattle.reduction.specs.Reduction.{projectOriginAndReduce, projectOrigin};
-ghost use Rattle.geometry_leaves.specs.Simplices.{answerOver, alteredOver, addedOver, numberOver, sizeOver, cornerOver, projectedOver, reducedOver};
-use reduction::Projected;
-use reduction::Reduced;
+ghost use Rattle.geometry_leaves.specs.Simplices.{answerOver, alteredOver, addedOver, numberOver, sizeOver, cornerOver};
 use shape::Vertex;
 use simplex::Added;
 use simplex::Altered;
@@ -26,7 +23,7 @@ pub struct Changed {
     pub answer: u32,
 }
 
-// A number, a count, a vertex or a point, or the refusal and zeros.
+// A number, a count or a vertex, or the refusal and zeros.
 #[repr(C)]
 pub struct MaybeNumber {
     pub refused: bool,
@@ -43,18 +40,6 @@ pub struct MaybeSize {
 pub struct MaybeVertex {
     pub refused: bool,
     pub is: Vertex,
-}
-
-#[repr(C)]
-pub struct MaybePoint {
-    pub refused: bool,
-    pub is: Vec3,
-}
-
-#[repr(C)]
-pub struct Projection {
-    pub simplex: VoronoiSimplex,
-    pub projection: MaybePoint,
 }
 
 // ---- how an answer goes over
@@ -132,30 +117,6 @@ fn corner_over(corner: Corner) -> MaybeVertex
     }
 }
 
-fn projected_over(projected: Projected) -> MaybePoint
-    ensures { λ r. ⌜ r ≡ projectedOver projected ⌝ }
-{
-    match projected {
-        Projected::At(is) => MaybePoint { refused: false, is },
-        Projected::Refused => MaybePoint {
-            refused: true,
-            is: Vec3::ZERO,
-        },
-    }
-}
-
-pub fn reduced_over(reduced: Reduced) -> Projection
-    ensures { λ r. ⌜ r ≡ reducedOver reduced ⌝ }
-{
-    let simplex = reduced.simplex;
-    let projected = reduced.projection;
-    let projection = projected_over(projected);
-    Projection {
-        simplex,
-        projection,
-    }
-}
-
 // ---- the operations
 
 #[no_mangle]
@@ -219,20 +180,6 @@ pub extern "C" fn leaf_simplex_prev_point(s: VoronoiSimplex, i: usize) -> MaybeV
     ensures { λ r. ⌜ r ≡ cornerOver (prevPoint s i) ⌝ }
 {
     corner_over(s.prev_point(i))
-}
-
-#[no_mangle]
-pub extern "C" fn leaf_simplex_project_origin_and_reduce(s: VoronoiSimplex) -> Projection
-    ensures { λ r. ⌜ r ≡ reducedOver (projectOriginAndReduce binary32 s) ⌝ }
-{
-    reduced_over(reduction::project_origin_and_reduce(s))
-}
-
-#[no_mangle]
-pub extern "C" fn leaf_simplex_project_origin(s: VoronoiSimplex) -> MaybePoint
-    ensures { λ r. ⌜ r ≡ projectedOver (projectOrigin binary32 s) ⌝ }
-{
-    projected_over(reduction::project_origin(s))
 }
 
 #[no_mangle]

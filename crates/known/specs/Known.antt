@@ -13,11 +13,12 @@ use Rattle.shape.specs.Vertex.{singlePoint}
 use Rattle.tetrahedron.specs.declared.Tetrahedron.{Tetrahedron}
 use Rattle.tetrahedron.specs.declared.TetrahedronProjection.{TetrahedronProjection}
 use Rattle.tetrahedron.specs.declared.TetrahedronProjection.the-variants.{At}
-use Rattle.tetrahedron.specs.declared.TetrahedronPointLocation.the-variants.{OnVertex, OnFace}
+use Rattle.tetrahedron.specs.declared.TetrahedronPointLocation.the-variants.{OnVertex}
 use Rattle.tetrahedron.specs.Tetrahedron.{projectTetrahedron}
 use Rattle.simplex.specs.declared.simplex.VoronoiSimplex.{VoronoiSimplex}
 use Rattle.simplex.specs.Simplex.{simplexOf}
-use Rattle.reduction.specs.Reduction.{applyTetrahedron}
+use Rattle.reduction.specs.declared.location.Location.the-variants.{OnFace}
+use Rattle.reduction.specs.Reduction.{applyLocation}
 use Rattle.heap.specs.Order.{orderOf}
 use Rattle.pushes.specs.declared.types.MaybeFaceId.the-variants.{Some, None}
 use Rattle.pushes.specs.Contracts.{faceIdNew}
@@ -44,7 +45,7 @@ fourCorners = let old = zeroF ∷ zeroF ∷ zeroF ∷ [] in simplexOf (0 ∷ 1 �
 
 -- the reduction to face acd with the given weights
 abbrev pub reducedTo : List Float → VoronoiSimplex
-reducedTo (u ∷ v ∷ w ∷ []) = applyTetrahedron fourCorners (OnFace 2 u v w) .simplex
+reducedTo (u ∷ v ∷ w ∷ []) = applyLocation fourCorners (OnFace 2 u v w) .simplex
 reducedTo [] = fourCorners
 reducedTo (u ∷ []) = fourCorners
 reducedTo (u ∷ v ∷ []) = fourCorners

@@ -18,6 +18,7 @@ use Rattle.tetrahedron.specs.declared.TetrahedronPointLocation.{TetrahedronPoin
 use Rattle.tetrahedron.specs.declared.TetrahedronPointLocation.the-variants as OfTetrahedron
 use Rattle.tetrahedron.specs.declared.TetrahedronProjection.{TetrahedronProjection}
 use Rattle.tetrahedron.specs.declared.TetrahedronProjection.the-variants as TetrahedronAnswer
+use Rattle.projection.specs.Values.{Values}
 use Rattle.projection.specs.Segment.{projectSegment}
 use Rattle.projection.specs.Triangle.{projectTriangle}
 use Rattle.tetrahedron.specs.Tetrahedron.{projectTetrahedron}
@@ -33,18 +34,14 @@ use Rattle.reduction.specs.declared.applying.Applied.{Applied}
 
 -- ---- document 01's number and values of each answer
 
--- of a projection 0 or refusal 2, its point and its location; of the refusal zeros, which is the location of kind and number 0
+-- of a projection 0 or refusal 2, and its values: point and location, and zeros for the refusal, the corner 0 being the location of zeros
 unfoldable pub projectedNumber : Projected → ℕ
 projectedNumber (At p l) = 0
 projectedNumber Refused = 2
 
-unfoldable pub projectedPoint : Projected → Vec3
-projectedPoint (At p l) = p
-projectedPoint Refused = zeroV
-
-unfoldable pub projectedLocation : Projected → Location
-projectedLocation (At p l) = l
-projectedLocation Refused = OnVertex 0
+unfoldable pub projectedValues : Projected → Values Location
+projectedValues (At p l) = record { point = p; location = l }
+projectedValues Refused = record { point = zeroV; location = OnVertex 0 }
 
 -- of applying a location 0, refusal 7 or refusal 2; its value is the simplex beside it
 unfoldable pub applicationNumber : Application → ℕ

@@ -43,12 +43,12 @@ use denote.Exit.{yes}
 use lib.Ieee.{binary32}
 use Rattle.reduction.specs.Reduction.{projectOriginAndReduce}
 use Rattle.simplex.specs.declared.simplex.VoronoiSimplex.{VoronoiSimplex}
-use Rattle.reduction.specs.declared.Projected.{Projected}
-use Rattle.reduction.specs.declared.Reduced.{Reduced}
-use Rattle.reduction.proofs.Projected as E
-use Rattle.reduction.proofs.Projected.Laws as E′
-use Rattle.reduction.proofs.Reduced as B
-use Rattle.reduction.proofs.Reduced.Laws as B′
+use Rattle.reduction.specs.declared.location.Projected.{Projected}
+use Rattle.reduction.proofs.location.Projected as E
+use Rattle.reduction.proofs.location.Projected.Laws as E′
+use Rattle.geometry_leaves.specs.declared.lent.Reduced.{Reduced}
+use Rattle.geometry_leaves.proofs.lent.Reduced as B
+use Rattle.geometry_leaves.proofs.lent.Reduced.Laws as B′
 use Rattle.simplex.proofs.simplex.VoronoiSimplex as T
 use Rattle.simplex.proofs.simplex.VoronoiSimplex.Laws as T′
 use Rattle.simplex_lent.proofs.project_origin_and_reduce as thin
@@ -105,7 +105,7 @@ module _ {M : Type 1} (𝓤 : URA M) (H : Heap 𝓤) (A : Atoms 𝓤) (W : Given
 
   exits : Is B.the-row both (made both ∷ []) → ent 𝓤 (emp 𝓤) (Post (made both))
   exits is =
-      qed W [] ∵ suffices ! _ (ends-at 𝓤 H A by-value.ended stayed (by-value.clauses 𝓤 H A at-mem run) W ((tt, tt, tt, a, at), tt) (made both) both (tt, tt) (tt, tt)) $ says ! refl $
+      qed W [] ∵ suffices ! _ (ends-at 𝓤 H A by-value.ended stayed (by-value.clauses 𝓤 H A at-mem run) W ((tt, tt, tt, a, at), tt) (made both) both (tt, tt) (tt, tt)) $ says ! (refl, refl) $
       owned ! B.the-row (Is B.the-row) (LL.makes B.the-type B′.the-plain 𝓤 H A) both _ is $ nothing ! $ owned ! R (Is R) (LL.makes T.the-type T′.the-plain 𝓤 H A) h _ h-is $ fjoin ! $ nothing ! $ done !
 
   -- the struct that is made of the two

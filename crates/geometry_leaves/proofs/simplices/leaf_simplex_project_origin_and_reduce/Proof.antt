@@ -1,9 +1,0 @@
--- `leaf_simplex_project_origin_and_reduce` returns the operation's answer, as it goes over.
-use Rattle.geometry_leaves.proofs.simplices.leaf_simplex_project_origin_and_reduce.Statement.{statement}
-use Rattle.geometry_leaves.proofs.simplices.leaf_simplex_project_origin_and_reduce.Tie as tie
-
-returns : tie.Need-returns
-returns c = simp (← c .before .project-origin-and-reduce .ensures, ← c .reduced-over .ensures)
-
-pub leaf-simplex-project-origin-and-reduce-spec : {M : Type 1} → statement M
-leaf-simplex-project-origin-and-reduce-spec = tie.close (tie.spec (λ c κs. tt) (λ c κs. tt) returns)
