@@ -6,7 +6,7 @@ ghost use Prim.Native.Nat.{_<_};
 ghost use Rattle.simplex.specs.Simplex.{isSimplex, swapIn};
 ghost use Rattle.reduction.specs.Reduction.{overwriteIn, placeIn, toFirst, toVertex, toEdge};
 ghost use Rattle.reduction.specs.Reduction.{reduceSegment, triangleEdge, reduceTriangle, edgeFirst, tetrahedronEdge, tetrahedronFace, reduceTetrahedron};
-ghost use Rattle.reduction.specs.Reduction.{hasLocation, reduceTo, applyLocation};
+ghost use Rattle.reduction.specs.Reduction.{hasLocation, reduceTo, appliedWith, applyLocation};
 use crate::location::Location;
 use simplex::VoronoiSimplex;
 
@@ -217,6 +217,12 @@ fn has_location(dim: usize, location: Location) -> bool
     }
 }
 
+fn answered(simplex: VoronoiSimplex, outcome: Application) -> Applied
+    ensures { λ r. ⌜ r ≡ appliedWith simplex outcome ⌝ }
+{
+    Applied { simplex, outcome }
+}
+
 // The simplex reduced to a location. Whether the value is a simplex is tested before all else.
 pub fn apply_location(simplex: VoronoiSimplex, location: Location) -> Applied
     ensures { λ r. ⌜ r ≡ applyLocation simplex location ⌝ }
@@ -224,18 +230,9 @@ pub fn apply_location(simplex: VoronoiSimplex, location: Location) -> Applied
     if simplex.is_simplex() {
         if has_location(simplex.dim, location) {
             let smaller = reduce_to(simplex, location);
-            return Applied {
-                simplex: smaller,
-                outcome: Application::Taken,
-            };
+            return answered(smaller, Application::Taken);
         }
-        return Applied {
-            simplex,
-            outcome: Application::NoSuchLocation,
-        };
+        return answered(simplex, Application::NoSuchLocation);
     }
-    Applied {
-        simplex,
-        outcome: Application::Refused,
-    }
+    answered(simplex, Application::Refused)
 }

@@ -9,15 +9,15 @@ reduce-to-requires c κs = (sym (c .before .before .before .is-simplex .ensures)
 
 returns : tie.Need-returns
 unfolding applyLocation
-returns c = simp (← c .before .before .before .before .is-simplex .ensures, ← c .before .before .has-location .ensures, ← c .reduce-to .ensures, c .before .if2 .taken, c .before .before .before .if1 .taken)
+returns c = simp (← c .before .before .before .before .before .is-simplex .ensures, ← c .before .before .before .has-location .ensures, ← c .before .reduce-to .ensures, ← c .answered .ensures, c .before .before .if2 .taken, c .before .before .before .before .if1 .taken)
 
 returns-2 : tie.Need-returns-2
 unfolding applyLocation
-returns-2 c = simp (← c .before .before .before .is-simplex .ensures, ← c .before .has-location .ensures, c .if2 .left, c .before .before .if1 .taken)
+returns-2 c = simp (← c .before .before .before .before .is-simplex .ensures, ← c .before .before .has-location .ensures, ← c .answered2 .ensures, c .before .if2 .left, c .before .before .before .if1 .taken)
 
 returns-3 : tie.Need-returns-3
 unfolding applyLocation
-returns-3 c = simp (← c .before .is-simplex .ensures, c .if1 .left)
+returns-3 c = simp (← c .before .before .is-simplex .ensures, ← c .answered3 .ensures, c .before .if1 .left)
 
 pub apply-location-spec : {M : Type 1} → statement M
-apply-location-spec = tie.close (tie.spec (λ c κs. tt) (λ c κs. tt) reduce-to-requires returns returns-2 returns-3)
+apply-location-spec = tie.close (tie.spec (λ c κs. tt) (λ c κs. tt) reduce-to-requires (λ c κs. tt) returns (λ c κs. tt) returns-2 (λ c κs. tt) returns-3)
