@@ -6,6 +6,7 @@ mod check;
 mod families;
 mod port;
 mod projections;
+mod reductions;
 mod searches;
 mod shapes;
 mod simplices;

@@ -193,7 +193,13 @@ unsafe extern "C" {
     pub safe fn leaf_simplex_prev_proj_coord(s: Simplex, i: usize) -> Maybe<f32>;
     pub safe fn leaf_simplex_prev_point(s: Simplex, i: usize) -> Maybe<Vertex>;
     pub safe fn leaf_simplex_project_origin_and_reduce(s: Simplex) -> Projection;
-    pub safe fn leaf_simplex_project_origin(s: Simplex) -> Maybe<Vec3>;
+    pub safe fn leaf_simplex_project_origin(s: Simplex) -> Placed;
+    pub safe fn leaf_simplex_apply_location(
+        s: Simplex,
+        kind: u32,
+        number: u32,
+        weights: Vec3,
+    ) -> Changed;
     pub safe fn leaf_simplex_contains_point(s: Simplex, pt: Vec3) -> u32;
     pub safe fn leaf_simplex_dimension(s: Simplex) -> Maybe<usize>;
     pub safe fn leaf_simplex_prev_dimension(s: Simplex) -> Maybe<usize>;
@@ -202,6 +208,12 @@ unsafe extern "C" {
 
     pub safe fn leaf_lent_reset(s: Simplex, pt: Vertex) -> Changed;
     pub safe fn leaf_lent_add_point(s: Simplex, pt: Vertex) -> Changed;
+    pub safe fn leaf_lent_apply_location(
+        s: Simplex,
+        kind: u32,
+        number: u32,
+        weights: Vec3,
+    ) -> Changed;
     pub safe fn leaf_lent_project_origin_and_reduce(s: Simplex) -> Projection;
 
     pub safe fn leaf_closest_points(

@@ -12,7 +12,7 @@ use parry3d::shape::{
     TrianglePointLocation,
 };
 
-fn placed(point: Vec3, kind: u32, number: u32, weights: [f32; 3]) -> Placed {
+pub fn placed(point: Vec3, kind: u32, number: u32, weights: [f32; 3]) -> Placed {
     Placed {
         refused: false,
         point,
@@ -22,7 +22,7 @@ fn placed(point: Vec3, kind: u32, number: u32, weights: [f32; 3]) -> Placed {
     }
 }
 
-fn on_segment(segment: &Segment, pt: Vec3) -> Placed {
+pub fn on_segment(segment: &Segment, pt: Vec3) -> Placed {
     let (proj, location) = segment.project_local_point_and_get_location(pt, true);
     match location {
         SegmentPointLocation::OnVertex(i) => placed(proj.point, 0, i, [0.0; 3]),
@@ -30,7 +30,7 @@ fn on_segment(segment: &Segment, pt: Vec3) -> Placed {
     }
 }
 
-fn on_triangle(triangle: &Triangle, pt: Vec3) -> Placed {
+pub fn on_triangle(triangle: &Triangle, pt: Vec3) -> Placed {
     let (proj, location) = triangle.project_local_point_and_get_location(pt, true);
     match location {
         TrianglePointLocation::OnVertex(i) => placed(proj.point, 0, i, [0.0; 3]),
@@ -40,7 +40,7 @@ fn on_triangle(triangle: &Triangle, pt: Vec3) -> Placed {
     }
 }
 
-fn on_tetrahedron(tetrahedron: &Tetrahedron, pt: Vec3) -> Placed {
+pub fn on_tetrahedron(tetrahedron: &Tetrahedron, pt: Vec3) -> Placed {
     let (proj, location) = tetrahedron.project_local_point_and_get_location(pt, true);
     match location {
         TetrahedronPointLocation::OnVertex(i) => placed(proj.point, 0, i, [0.0; 3]),
@@ -51,7 +51,7 @@ fn on_tetrahedron(tetrahedron: &Tetrahedron, pt: Vec3) -> Placed {
 }
 
 /// The port's refusal comes with zeros, which is compared too.
-fn answered(placed: Placed) -> Option<Placed> {
+pub fn answered(placed: Placed) -> Option<Placed> {
     let zeros = placed.point == Vec3::ZERO && placed.weights == Vec3::ZERO;
     (!placed.refused || !zeros).then_some(placed)
 }

@@ -4,6 +4,7 @@ use crate::check::{caught, Check, Compared};
 use crate::families::Numbers;
 use crate::port::{self, Changed, Simplex, Vertex};
 use crate::random::Random;
+use crate::reductions::compare_locations;
 use glamx::Vec3;
 use parry3d::query::gjk::{CsoPoint, VoronoiSimplex};
 
@@ -125,7 +126,8 @@ fn compare_reads(check: &mut Check, n: &mut Numbers, s: &Simplex) -> Compared {
 
     let (after, rust) = altered(&s, |r| r.project_origin());
     check.same("project_origin leaves it", &of, after, s)?;
-    let port = port::leaf_simplex_project_origin(s).option();
+    let port = port::leaf_simplex_project_origin(s);
+    let port = (!port.refused).then_some(port.point);
     check.call("project_origin", &of, &rust, &port)
 }
 
@@ -192,6 +194,7 @@ fn compare_changes(check: &mut Check, n: &mut Numbers, s: &Simplex) -> Result<Si
     })
 }
 
+/// The two operations in turn, by value and lent, against the Rust's one.
 fn compare_reductions(check: &mut Check, s: &Simplex) -> Result<Simplex, String> {
     let rust = altered(s, |r| r.project_origin_and_reduce());
     let port = port::leaf_simplex_project_origin_and_reduce(*s);
@@ -253,6 +256,7 @@ pub fn compare_simplices(check: &mut Check, n: &mut Numbers) -> Compared {
     };
     for _ in 0..STEPS {
         compare_reads(check, n, &s)?;
+        compare_locations(check, n, &s)?;
         s = compare_changes(check, n, &s)?;
     }
     Ok(())

@@ -109,7 +109,7 @@ perturbedRound r =
       niter = r .niter;
     }
 
--- the end of a round: `old_dir = dir; proj = reduction::project_origin_and_reduce(simplex); niter += 1`
+-- the end of a round: `old_dir = dir; proj = simplex.project_origin_and_reduce(); niter += 1`
 unfoldable pub roundAfter : Round → Vec3 → Vec3 → Round
 roundAfter r proj dir =
     record {
