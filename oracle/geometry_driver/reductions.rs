@@ -98,7 +98,7 @@ pub fn compare_locations(check: &mut Check, n: &mut Numbers, s: &Simplex) -> Com
     let weights = n.vector();
     let of = (*s, kind, number, weights);
     let (name, after, answer) = if !is_simplex(s) {
-        ("apply_location: no simplex", *s, 2)
+        ("apply_location: no simplex", *s, 2_u32)
     } else if has_location(s.dim, kind, number) {
         (
             "apply_location: taken",
