@@ -103,7 +103,7 @@ impl<P: Polytope> Channel<P> {
 }
 
 /// A shape of the published text.
-enum Published {
+pub enum Published {
     Ball(Ball),
     Cuboid(Cuboid),
     Capsule(Capsule),
@@ -132,7 +132,7 @@ impl From<Shape> for Published {
 }
 
 impl Published {
-    fn support_map(&self) -> &dyn SupportMap {
+    pub fn support_map(&self) -> &dyn SupportMap {
         match self {
             Published::Ball(ball) => ball,
             Published::Cuboid(cuboid) => cuboid,

@@ -1,6 +1,7 @@
 //! The oracle: the published Rust behind a case file. See oracle/README.md.
 
 mod casefile;
+mod casts;
 mod channel;
 mod damage;
 mod edits;
@@ -27,6 +28,8 @@ oracle order smallest
 oracle heap
 oracle gen FAMILY SEED COUNT              a case file on standard output
 oracle damage SEED COUNT FOLDER           a case file on standard input
+oracle casts gen FAMILY SEED COUNT        casts as words on standard output
+oracle casts run|ways                     casts as words on standard input
 ROOM is vertices=N, edges=N, faces=N or heap=N
 FAMILY is ordinary, grid, mixed, limits, bits, tiny, huge, touching, coincident, arms or all
 ";
@@ -72,6 +75,15 @@ fn command(words: &[&str]) -> io::Result<Option<()>> {
             input.read_to_end(&mut original)?;
             damage::damage(&original, Path::new(folder), seed, count, channel::ROOMS)?;
         }
+        ["casts", "gen", family, seed, count] => {
+            let (Ok(seed), Ok(count)) = (seed.parse(), count.parse()) else {
+                return Ok(None);
+            };
+            let known = casts::generate(&mut output, family, seed, count)?;
+            return Ok(known.then_some(()));
+        }
+        ["casts", "run"] => casts::run(input, output)?,
+        ["casts", "ways"] => casts::ways(input, &mut output)?,
         ["edits"] => edits::edits(input, &mut output)?,
         ["heap"] => heap::heap(&mut output)?,
         ["order", "smallest"] => smallest::smallest(&mut output, channel::ROOMS)?,

@@ -11,7 +11,7 @@ mod touching;
 use crate::casefile::Record;
 use crate::random::Random;
 
-type Family = fn(&mut Random) -> Record;
+pub type Family = fn(&mut Random) -> Record;
 
 pub const FAMILIES: [(&str, Family); 10] = [
     ("ordinary", scales::ordinary),

@@ -5,8 +5,10 @@ pub use self::ray::Ray;
 
 pub mod epa;
 pub mod gjk;
+pub mod gjk_ways;
 pub mod point;
 mod ray;
+pub mod ways;
 
 /// Where gjk.rs looks for the ray test.
 pub mod details {

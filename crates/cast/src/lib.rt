@@ -1,0 +1,10 @@
+// The time of impact: `minkowski_ray_cast` of gjk.rs, a ray cast on the Minkowski difference of two shapes, with its private callees.
+// A miss is number 6, and every place where the Rust panics gets refusal 2.
+mod ray;
+mod rounds;
+
+pub use ray::MaybeTime;
+pub use ray::Ray;
+pub use ray::ray_toi_with_halfspace;
+pub use rounds::Cast;
+pub use rounds::minkowski_ray_cast;
