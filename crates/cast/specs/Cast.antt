@@ -21,8 +21,8 @@ use Rattle.simplex.specs.declared.operations.Answer.{Answer}
 use Rattle.simplex.specs.declared.operations.Answer.the-variants as Added
 use Rattle.simplex.specs.Simplex.{newSimplex}
 use Rattle.simplex.specs.Operations.{resetSimplex, addPoint, modifyPnts}
-use Rattle.reduction.specs.declared.Projected.{Projected}
-use Rattle.reduction.specs.declared.Projected.the-variants as Projection
+use Rattle.reduction.specs.declared.location.Projected.{Projected}
+use Rattle.reduction.specs.declared.location.Projected.the-variants as Projection
 use Rattle.reduction.specs.Reduction.{projectOriginAndReduce}
 use Rattle.witnesses.specs.declared.Witnesses.{Witnesses}
 use Rattle.witnesses.specs.declared.Witnesses.the-variants as Points
@@ -77,13 +77,13 @@ abbrev pub endedWith : VoronoiSimplex → Cast → Turn
 endedWith s x = record { simplex = s; next = Ended x }
 
 -- the next part, where the first goes on
-abbrev pub goesOn : VoronoiSimplex → Next → (VoronoiSimplex → Round → Turn) → Turn
-goesOn s (Onward r) part = part s r
-goesOn s (Ended x) part = endedWith s x
+abbrev pub goesOn : Turn → Next → (VoronoiSimplex → Round → Turn) → Turn
+goesOn t (Onward r) part = part (t .simplex) r
+goesOn t (Ended x) part = t
 
 infixr 10 _▷_
 abbrev pub _▷_ : Turn → (VoronoiSimplex → Round → Turn) → Turn
-t ▷ part = goesOn (t .simplex) (t .next) part
+t ▷ part = goesOn t (t .next) part
 
 abbrev pub rayOf : Vec3 → Vec3 → Ray
 rayOf o d = record { origin = o; dir = d }
@@ -177,7 +177,7 @@ module _ (f : Format) where
 
   -- `proj = simplex.project_origin_and_reduce()`
   abbrev pub reducedTo : Search → VoronoiSimplex → Projected → Round → Float → Vertex → Turn
-  reducedTo k s (Projection.At proj) r minBound support =
+  reducedTo k s (Projection.At proj location) r minBound support =
       cond (eqb (s .dim) 3) (endedWith s (solid k r minBound support))
       (onwardWith s (roundOf (r .ltoi) (r .«curr_ray») (r .ldir) proj (r .«max_bound») (r .«last_chance»)))
   reducedTo k s Projection.Refused r minBound support = endedWith s Refused
@@ -216,7 +216,7 @@ module _ (f : Format) where
 
   -- ---- what stands before the loop
   abbrev pub startAt : Ray → VoronoiSimplex → Projected → Turn
-  startAt ray s (Projection.At proj) = onwardWith s (roundOf zeroF ray (negV (ray .dir)) proj (largest f) false)
+  startAt ray s (Projection.At proj location) = onwardWith s (roundOf zeroF ray (negV (ray .dir)) proj (largest f) false)
   startAt ray s Projection.Refused = endedWith s Refused
 
   unfoldable pub startOf : Search → Turn

@@ -181,14 +181,15 @@ fn clipped_turn(
             if (along < 0.0) & (t > 0.0) {
                 return lowered_turn(q, simplex, r, dir, t);
             }
+            onward(simplex, r)
         }
         MaybeTime::None => {
             if along > number::eps_tol() {
                 return ended(simplex, Cast::Miss);
             }
+            onward(simplex, r)
         }
     }
-    onward(simplex, r)
 }
 
 fn min_bound_of(r: Round, dir: Vec3, support_point: Vertex) -> f32
@@ -245,7 +246,7 @@ fn solid_at(q: Query, r: Round, min_bound: f32, support_point: Vertex) -> Cast
     impact_at(q, r)
 }
 
-// The simplex is reduced, and the round is over.
+// The simplex is reduced, and the round is over. A location is always taken by the simplex that it was found for.
 fn reduced_turn(
     q: Query,
     simplex: VoronoiSimplex,
@@ -255,12 +256,12 @@ fn reduced_turn(
 ) -> Turn
     ensures { λ u. ⌜ u ≡ reduced binary32 (searchOf q) simplex r «min_bound» «support_point» ⌝ }
 {
-    let reduction = reduction::project_origin_and_reduce(simplex);
-    let smaller = reduction.simplex;
-    let projection = reduction.projection;
-    let Projected::At(proj) = projection else {
-        return ended(smaller, Cast::Refused);
+    let found = reduction::project_origin(simplex);
+    let Projected::At(proj, location) = found else {
+        return ended(simplex, Cast::Refused);
     };
+    let applied = reduction::apply_location(simplex, location);
+    let smaller = applied.simplex;
     if smaller.dim == 3 {
         return ended(smaller, solid_at(q, r, min_bound, support_point));
     }
@@ -362,12 +363,13 @@ fn start_of(q: Query) -> Turn
     let g2 = q.g2;
     let support_point = from_shapes(pos12, g1, g2, dir);
     let begun = VoronoiSimplex::new().reset(support_point.translate(origin.neg()));
-    let reduction = reduction::project_origin_and_reduce(begun.simplex);
-    let simplex = reduction.simplex;
-    let projection = reduction.projection;
-    let Projected::At(proj) = projection else {
-        return ended(simplex, Cast::Refused);
+    let one = begun.simplex;
+    let found = reduction::project_origin(one);
+    let Projected::At(proj, location) = found else {
+        return ended(one, Cast::Refused);
     };
+    let applied = reduction::apply_location(one, location);
+    let simplex = applied.simplex;
     let round = Round {
         ltoi: 0.0,
         curr_ray: Ray { origin, dir: along },
