@@ -8,6 +8,7 @@ use crate::channel::Published;
 use crate::families::{self, Family};
 use crate::lines;
 use crate::random::Random;
+use crate::stats;
 use parry3d::math::{Pose, Rotation, Vector};
 use parry3d::query::gjk::{record, VoronoiSimplex};
 use parry3d::query::ways::{self, Way};
@@ -16,6 +17,7 @@ use parry3d::shape::SupportMap;
 use std::collections::BTreeMap;
 use std::io::{self, BufWriter, Read, Write};
 use std::panic::{self, AssertUnwindSafe};
+use std::sync::atomic::Ordering;
 
 const WORDS: usize = 34;
 const BYTES: usize = 4 * WORDS;
@@ -209,7 +211,14 @@ fn answer(cast: &Cast, ray_cast: RayCast) -> (u8, [u32; 4]) {
     let (g1, g2) = (first.support_map(), second.support_map());
     // Each cast begins with a new simplex, so a panic leaves nothing behind.
     let run = AssertUnwindSafe(|| {
-        ray_cast(&pos12, g1, g2, &ray, cast.max_time, &mut VoronoiSimplex::new())
+        ray_cast(
+            &pos12,
+            g1,
+            g2,
+            &ray,
+            cast.max_time,
+            &mut VoronoiSimplex::new(),
+        )
     });
     match panic::catch_unwind(run) {
         Ok(Some((time, dir))) => (0, [time, dir.x, dir.y, dir.z].map(lines::bits)),
@@ -248,7 +257,9 @@ impl Ways {
     fn note(&mut self, cast: &Cast) {
         let published = answer(cast, record::minkowski_ray_cast);
         ways::begin();
+        stats::NOTING.store(false, Ordering::Relaxed);
         let copy = answer(cast, edited);
+        stats::NOTING.store(true, Ordering::Relaxed);
         *self.numbers.entry(published.0).or_default() += 1;
         *self.ways.entry(ways::way()).or_default() += 1;
         self.not_added += u64::from(ways::not_added());
@@ -260,17 +271,23 @@ impl Ways {
         for (number, count) in &self.numbers {
             writeln!(output, "number {number} {count}")?;
         }
+        stats::print_panic_sites(output)?;
         for (way, count) in &self.ways {
             writeln!(output, "way out {way:?} {count}")?;
         }
         writeln!(output, "with a new lower bound {}", self.lowered)?;
         writeln!(output, "with a point that was not added {}", self.not_added)?;
-        writeln!(output, "answered otherwise by the edited copy {}", self.differ)
+        writeln!(
+            output,
+            "answered otherwise by the edited copy {}",
+            self.differ
+        )
     }
 }
 
 /// Casts on standard input; which ways out they take, by the edited copy.
 pub fn ways(mut input: impl Read, output: &mut impl Write) -> io::Result<()> {
+    stats::note_panic_sites();
     let mut found = Ways::default();
     while let Some(cast) = read(&mut input)? {
         found.note(&cast);

@@ -9,13 +9,20 @@ use std::collections::BTreeMap;
 use std::io::{self, Read, Write};
 use std::panic;
 use std::path::Path;
+use std::sync::atomic::{AtomicBool, Ordering};
 use std::sync::Mutex;
 
 /// How often each place of the source panicked. The hook is the only one that learns it.
 static PANIC_SITES: Mutex<BTreeMap<String, u64>> = Mutex::new(BTreeMap::new());
 
-fn note_panic_sites() {
+/// Off while a run is only repeated.
+pub static NOTING: AtomicBool = AtomicBool::new(true);
+
+pub fn note_panic_sites() {
     panic::set_hook(Box::new(|info| {
+        if !NOTING.load(Ordering::Relaxed) {
+            return;
+        }
         let site = info.location().map_or("unknown".to_string(), |location| {
             let file = Path::new(location.file()).file_name().unwrap_or_default();
             format!("{}:{}", file.display(), location.line())
@@ -23,6 +30,13 @@ fn note_panic_sites() {
         let mut sites = PANIC_SITES.lock().expect("no panic inside the hook");
         *sites.entry(site).or_default() += 1;
     }));
+}
+
+pub fn print_panic_sites(output: &mut impl Write) -> io::Result<()> {
+    for (site, count) in PANIC_SITES.lock().expect("no panic inside the hook").iter() {
+        writeln!(output, "panic at {site} {count}")?;
+    }
+    Ok(())
 }
 
 #[derive(Default)]
@@ -61,9 +75,7 @@ impl Stats {
         for (letter, count) in &self.letters {
             writeln!(output, "letter {letter} {count}")?;
         }
-        for (site, count) in PANIC_SITES.lock().expect("no panic inside the hook").iter() {
-            writeln!(output, "panic at {site} {count}")?;
-        }
+        print_panic_sites(output)?;
         for (way_out, count) in &self.ways_out {
             writeln!(output, "way out {way_out} {count}")?;
         }

@@ -110,7 +110,11 @@ fn print_line(number: u8, time: f32, dir: Vec3) {
     put_number(&mut line, 20, dir.y);
     put_number(&mut line, 29, dir.z);
     line[37] = b'\n';
-    io::write_all(STDOUT_FILENO, &line);
+    print_text(&line);
+}
+
+fn print_text(text: &[u8; 38]) {
+    io::write_all(STDOUT_FILENO, text);
 }
 
 // Eight digits from `at` on.
