@@ -45,17 +45,23 @@ castNumber (Impact t d) = 0
 castNumber Miss = 6
 castNumber Refused = 2
 
-pub record Values : Type 0 where
+unfoldable pub castTime : Cast → Float
+castTime (Impact t d) = t
+castTime Miss = zeroF
+castTime Refused = zeroF
+
+unfoldable pub castDir : Cast → Vec3
+castDir (Impact t d) = d
+castDir Miss = zeroV
+castDir Refused = zeroV
+
+pub record Told : Type 0 where
+  pub number : ℕ
   pub time : Float
   pub dir : Vec3
 
-abbrev pub values : Float → Vec3 → Values
-values t d = record { time = t; dir = d }
-
-unfoldable pub castValues : Cast → Values
-castValues (Impact t d) = values t d
-castValues Miss = values zeroF zeroV
-castValues Refused = values zeroF zeroV
+abbrev pub told : Cast → Told
+told c = record { number = castNumber c; time = castTime c; dir = castDir c }
 
 -- ---- what a cast is asked: the support points of the two shapes, the ray, the largest time; and `ray_length` and `_eps_rel`
 pub record Search : Type 0 where
@@ -84,6 +90,11 @@ goesOn t (Ended x) part = t
 infixr 10 _▷_
 abbrev pub _▷_ : Turn → (VoronoiSimplex → Round → Turn) → Turn
 t ▷ part = goesOn t (t .next) part
+
+-- a turn's end is the cast's, or the rounds go on
+unfoldable pub after : (VoronoiSimplex → Round → Cast) → VoronoiSimplex → Next → Cast
+after go s (Onward r) = go s r
+after go s (Ended x) = x
 
 abbrev pub rayOf : Vec3 → Vec3 → Ray
 rayOf o d = record { origin = o; dir = d }
@@ -206,10 +217,6 @@ module _ (f : Format) where
       cond (lt (epsTol f) dist) (probed k s (upperBound r dist stuck) dir (supportPoint k r dir stuck)) (endedWith s (impact k r))
 
   -- ---- the rounds: n are left, and at none `if niter == 100 { return None }`
-  unfoldable pub after : (VoronoiSimplex → Round → Cast) → VoronoiSimplex → Next → Cast
-  after go s (Onward r) = go s r
-  after go s (Ended x) = x
-
   unfoldable pub runOf : Search → ℕ → VoronoiSimplex → Round → Cast
   runOf k zero s r = Miss
   runOf k (suc n) s r = let t = turnOf k s r in after (runOf k n) (t .simplex) (t .next)
@@ -233,4 +240,4 @@ minkowskiRayCast f supp ray maxTime =
     let rayLength = lengthV f (ray .dir) in
     let k : Search = record { supp = supp; ray = ray; maxTime = maxTime; rayLength = rayLength; epsRel = root f (epsTol f) } in
     let t = startOf f k in
-    cond (isZero f rayLength) Miss (after f (runOf f k 100) (t .simplex) (t .next))
+    cond (isZero f rayLength) Miss (after (runOf f k 100) (t .simplex) (t .next))

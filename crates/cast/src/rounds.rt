@@ -4,7 +4,7 @@ ghost use lib.Ieee.{binary32};
 ghost use Rattle.shape.specs.Support.{fromShapes};
 ghost use Rattle.cast.specs.Cast.{searchOf, onwardWith, endedWith, impact, beyond, supportPoint, witnessed, lastChance};
 ghost use Rattle.cast.specs.Cast.{lowered, clipped, minBoundOf, bounded, added, solid, reduced, probed};
-ghost use Rattle.cast.specs.Cast.{turnOf, runOf, startOf, minkowskiRayCast};
+ghost use Rattle.cast.specs.Cast.{turnOf, runOf, startOf, minkowskiRayCast, told};
 use crate::ray::MaybeTime;
 use crate::ray::Ray;
 use crate::ray::is_zero;
@@ -152,12 +152,13 @@ fn lowered_turn(q: Query, simplex: VoronoiSimplex, r: Round, dir: Vec3, t: f32) 
     let shifted = moved.simplex;
     let origin = from.add(shift);
     let proj = r.proj;
+    let restored = number::largest();
     let next = Round {
         ltoi,
         curr_ray: Ray { origin, dir: along },
         ldir: dir,
         proj,
-        max_bound: number::largest(),
+        max_bound: restored,
         last_chance: false,
     };
     onward(shifted, next)
@@ -389,7 +390,8 @@ pub fn minkowski_ray_cast(
     ray: Ray,
     max_time_of_impact: f32,
 ) -> Cast
-    ensures { λ c. ⌜ c ≡ minkowskiRayCast binary32 (fromShapes binary32 pos12 g1 g2) ray «max_time_of_impact» ⌝ }
+    ensures answer { λ c. ⌜ c ≡ minkowskiRayCast binary32 (fromShapes binary32 pos12 g1 g2) ray «max_time_of_impact» ⌝ }
+    ensures told { λ c. ⌜ told c ≡ told (minkowskiRayCast binary32 (fromShapes binary32 pos12 g1 g2) ray «max_time_of_impact») ⌝ }
 {
     let given = ray.dir;
     let ray_length = given.length();

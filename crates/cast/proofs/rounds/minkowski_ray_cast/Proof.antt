@@ -1,26 +1,32 @@
--- `minkowski_ray_cast` returns `minkowskiRayCast`.
+-- `minkowski_ray_cast` returns `minkowskiRayCast`, and is told as it is.
+use mathlib.Core.Path.{_≡_, ap}
 use borrow.Author.Needs.{needs}
-use Rattle.cast.specs.Cast.{after, minkowskiRayCast}
+use Rattle.cast.specs.declared.rounds.Cast.{Cast}
+use Rattle.cast.specs.Cast.{after, minkowskiRayCast, told}
 use Rattle.cast.proofs.rounds.minkowski_ray_cast.Statement.{statement}
 use Rattle.cast.proofs.rounds.minkowski_ray_cast.Tie as tie
 
+-- what is the same answer is told alike
+both : {x y : Cast} → x ≡ y → (x ≡ y) × (told x ≡ told y)
+both e = (e, ap told e)
+
 returns : tie.Need-returns
 unfolding minkowskiRayCast
-returns c = simp (← c .before .before .length .ensures, ← c .before .is-zero .ensures, c .if1 .taken)
+returns c = both (simp (← c .before .before .length .ensures, ← c .before .is-zero .ensures, c .if1 .taken))
 
 returns-2 : tie.Need-returns-2
 unfolding minkowskiRayCast after
 returns-2 c =
     let at = c .before .before .before .before in
     let first = at .before .before .before .before in
-    simp (← first .before .length .ensures, ← first .is-zero .ensures, ← at .before .before .eps-tol .ensures, ← at .before .sqrt .ensures .0, ← at .start-of .ensures, at .before .before .before .if1 .left, c .before .next .given .1)
+    both (simp (← first .before .length .ensures, ← first .is-zero .ensures, ← at .before .before .eps-tol .ensures, ← at .before .sqrt .ensures .0, ← at .start-of .ensures, at .before .before .before .if1 .left, c .before .next .given .1))
 
 returns-3 : tie.Need-returns-3
 unfolding minkowskiRayCast after
 returns-3 c =
     let at = c .before .before .before .before .before in
     let first = at .before .before .before .before in
-    simp (← first .before .length .ensures, ← first .is-zero .ensures, ← at .before .before .eps-tol .ensures, ← at .before .sqrt .ensures .0, ← at .start-of .ensures, ← c .run-of .ensures, at .before .before .before .if1 .left, c .before .before .next2 .given .1)
+    both (simp (← first .before .length .ensures, ← first .is-zero .ensures, ← at .before .before .eps-tol .ensures, ← at .before .sqrt .ensures .0, ← at .start-of .ensures, ← c .run-of .ensures, at .before .before .before .if1 .left, c .before .before .next2 .given .1))
 
 pub minkowski-ray-cast-spec : {M : Type 1} → statement M
 minkowski-ray-cast-spec = tie.close (tie.spec (λ c κs. tt) (λ c κs. tt) returns (λ c κs. tt) (λ c κs. tt) (λ c κs. tt) (λ c. search needs) (λ c. search needs) (λ c κs. tt) returns-2 returns-3)

@@ -1,0 +1,2 @@
+-- Laws of the cast, over plain values.
+pub mod Hundred
