@@ -45,23 +45,22 @@ castNumber (Impact t d) = 0
 castNumber Miss = 6
 castNumber Refused = 2
 
-unfoldable pub castTime : Cast → Float
-castTime (Impact t d) = t
-castTime Miss = zeroF
-castTime Refused = zeroF
-
-unfoldable pub castDir : Cast → Vec3
-castDir (Impact t d) = d
-castDir Miss = zeroV
-castDir Refused = zeroV
-
-pub record Told : Type 0 where
-  pub number : ℕ
+pub record Values : Type 0 where
   pub time : Float
   pub dir : Vec3
 
+unfoldable pub castValues : Cast → Values
+castValues (Impact t d) = record { time = t; dir = d }
+castValues Miss = record { time = zeroF; dir = zeroV }
+castValues Refused = record { time = zeroF; dir = zeroV }
+
+-- both
+pub record Told : Type 0 where
+  pub number : ℕ
+  pub values : Values
+
 abbrev pub told : Cast → Told
-told c = record { number = castNumber c; time = castTime c; dir = castDir c }
+told c = record { number = castNumber c; values = castValues c }
 
 -- ---- what a cast is asked: the support points of the two shapes, the ray, the largest time; and `ray_length` and `_eps_rel`
 pub record Search : Type 0 where

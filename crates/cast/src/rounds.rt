@@ -1,4 +1,5 @@
-// `minkowski_ray_cast` of gjk.rs: the start, the rounds and their ways out.
+// `minkowski_ray_cast` of gjk.rs: the start, the rounds and their ways out. A simplex is reduced by `project_origin` and `apply_location` in turn:
+// a location that was found for a simplex is always taken, so the answer of applying it is not looked at (`both-in-turn` of `reduction`).
 ghost use mathlib.Core.Path.{_≡_};
 ghost use lib.Ieee.{binary32};
 ghost use Rattle.shape.specs.Support.{fromShapes};
@@ -247,7 +248,7 @@ fn solid_at(q: Query, r: Round, min_bound: f32, support_point: Vertex) -> Cast
     impact_at(q, r)
 }
 
-// The simplex is reduced, and the round is over. A location is always taken by the simplex that it was found for.
+// The simplex is reduced, and the round is over.
 fn reduced_turn(
     q: Query,
     simplex: VoronoiSimplex,

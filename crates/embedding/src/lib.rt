@@ -1,4 +1,4 @@
-// The channel and the vote under C names, for a caller in another language (include/separation.h). Each is lent what it needs: nothing is
+// The channel, the vote and the cast (impact.rt) under C names, for a caller in another language (include/separation.h). Each is lent what it needs: nothing is
 // allocated and nothing kept. Stores of any lengths are taken; a kind of shape above 3 is answered as malformed.
 ghost use mathlib.Core.Path.{_≡_};
 ghost use Rattle.vote.specs.Vote.{voteOf};
@@ -9,6 +9,9 @@ ghost use Rattle.epa.specs.Final.{finalBy};
 ghost use Rattle.epa_lent.specs.Lent.{finalEdges};
 ghost use Rattle.answers.specs.Answers.{shapeOf, votedOf};
 ghost use Rattle.embedding.specs.Embedding.{ran, ranEdges};
+
+mod impact;
+
 use answers::MaybeShape;
 use answers::ShapeRecord;
 use answers::Voted;

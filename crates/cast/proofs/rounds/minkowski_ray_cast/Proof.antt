@@ -1,4 +1,4 @@
--- `minkowski_ray_cast` returns `minkowskiRayCast`, and is told as it is.
+-- `minkowski_ray_cast` returns `minkowskiRayCast`, and has its number and values.
 use mathlib.Core.Path.{_≡_, ap}
 use borrow.Author.Needs.{needs}
 use Rattle.cast.specs.declared.rounds.Cast.{Cast}
@@ -6,7 +6,7 @@ use Rattle.cast.specs.Cast.{after, minkowskiRayCast, told}
 use Rattle.cast.proofs.rounds.minkowski_ray_cast.Statement.{statement}
 use Rattle.cast.proofs.rounds.minkowski_ray_cast.Tie as tie
 
--- what is the same answer is told alike
+-- the same answer has the same number and values
 both : {x y : Cast} → x ≡ y → (x ≡ y) × (told x ≡ told y)
 both e = (e, ap told e)
 
