@@ -1,4 +1,4 @@
-//! The separation channel and the vote in Rust, over libembedding.a (`rt staticlib embedding`). Nothing is allocated
+//! The separation channel, the vote and the cast in Rust, over libembedding.a (`rt staticlib embedding`). Nothing is allocated
 //! and nothing kept. The contracts are in crates/embedding; include/separation.h says what each field holds.
 
 #[repr(C)]
@@ -64,6 +64,22 @@ pub struct Voted {
     pub answer: Answer,
 }
 
+#[repr(C)]
+#[derive(Copy, Clone, Debug, PartialEq)]
+pub struct Ray {
+    pub origin: Vector,
+    pub dir: Vector,
+}
+
+/// `number` is 0 for an impact, 6 for a miss, 2 where the cast is refused; `time` is in lengths of the ray's direction.
+#[repr(C)]
+#[derive(Copy, Clone, Debug, PartialEq)]
+pub struct Impact {
+    pub number: u32,
+    pub time: f32,
+    pub dir: Vector,
+}
+
 /// The stores that a run borrows. A store of several slices is as long as the fewest whole records that one holds.
 pub struct Stores<'a> {
     pub vertices: &'a mut [f32],
@@ -124,6 +140,7 @@ unsafe extern "C" {
         heap_key_length: usize,
     ) -> Answer;
     safe fn separation_vote(a: Answer, b: Answer, c: Answer) -> Voted;
+    safe fn separation_cast(pos12: Pose, g1: ShapeRecord, g2: ShapeRecord, ray: Ray, max_time: f32) -> Impact;
 }
 
 /// How far `g2`, in the pose `pos12` in the frame of `g1`, is from `g1`, or how deep they meet.
@@ -161,4 +178,10 @@ pub fn run(pos12: Pose, g1: Shape, g2: Shape, dir: Vector, max_dist: f32, exact:
 /// one: a NaN agrees with a NaN, and -0 not with +0. (`==` on two answers compares floats as Rust does.)
 pub fn vote(a: Answer, b: Answer, c: Answer) -> Voted {
     separation_vote(a, b, c)
+}
+
+/// When `g2`, which stands in the pose `pos12` in the frame of `g1`, meets `g1`: it is moved by the ray's origin and then
+/// along its direction, no longer than `max_time`.
+pub fn cast(pos12: Pose, g1: Shape, g2: Shape, ray: Ray, max_time: f32) -> Impact {
+    separation_cast(pos12, g1.into(), g2.into(), ray, max_time)
 }

@@ -1,4 +1,4 @@
-/* The separation channel and the vote, from libembedding.a (rt staticlib embedding).
+/* The separation channel, the vote and the cast, from libembedding.a (rt staticlib embedding).
  *
  * A call allocates nothing and keeps nothing: it works on what it is lent. Every call ends, on any numbers and
  * any lengths. Its contract is in crates/embedding. */
@@ -88,5 +88,29 @@ separation_answer separation_run(
 /* Two out of three. Answers agree when outcome and counts are the same and the bits of each float, all NaNs counting
  * as one: a NaN agrees with a NaN, and -0 not with +0. */
 separation_voted separation_vote(separation_answer a, separation_answer b, separation_answer c);
+
+typedef struct {
+    separation_vector origin, dir;
+} separation_ray;
+
+enum separation_cast_number {
+    SEPARATION_IMPACT = 0,
+    SEPARATION_CAST_REFUSED = 2,   /* refusal 2 */
+    SEPARATION_CAST_MALFORMED = 4, /* refusal 4: a kind of shape above 3 */
+    SEPARATION_MISS = 6,
+};
+
+/* The time of the impact, in lengths of the ray's direction, and the direction there. What is no impact has zeros. */
+typedef struct {
+    uint32_t number;
+    float time;
+    separation_vector dir;
+} separation_impact;
+
+/* When shape g2, which stands in the pose pos12 in the frame of g1, meets g1: it is moved by ray.origin and then along
+ * ray.dir. No later than max_time, or it is a miss; so is a direction of no length. */
+separation_impact separation_cast(
+    separation_pose pos12, separation_shape g1, separation_shape g2,
+    separation_ray ray, float max_time);
 
 #endif

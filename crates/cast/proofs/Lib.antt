@@ -1,2 +1,3 @@
--- Laws of the cast, over plain values.
+-- Laws of the cast: its rounds as the Rust counts them, and its start.
 pub mod Hundred
+pub mod Start

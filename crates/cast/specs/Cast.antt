@@ -17,6 +17,8 @@ use Rattle.shape.specs.declared.vertex.Vertex.{Vertex}
 use Rattle.shape.specs.Vertex.{singlePoint, translateVertex}
 use Rattle.shape.specs.Support.{fromShapes}
 use Rattle.simplex.specs.declared.simplex.VoronoiSimplex.{VoronoiSimplex}
+use Rattle.simplex.specs.declared.operations.Outcome.{Outcome}
+use Rattle.simplex.specs.declared.operations.Outcome.the-variants as Moved
 use Rattle.simplex.specs.declared.operations.Answer.{Answer}
 use Rattle.simplex.specs.declared.operations.Answer.the-variants as Added
 use Rattle.simplex.specs.Simplex.{newSimplex}
@@ -138,14 +140,19 @@ module _ (f : Format) where
 
   -- ---- `match query::details::ray_toi_with_halfspace(support_point.point, dir, &curr_ray)`
 
+  -- `simplex.modify_pnts(&|pt| pt.translate_mut(-shift))`: a simplex is never refused
+  abbrev pub movedBy : VoronoiSimplex → Outcome → Round → Turn
+  movedBy s Moved.Done r = onwardWith s r
+  movedBy s Moved.Refused r = endedWith s Refused
+
   -- a new lower bound: `ldir = dir; ltoi += t`, and the origin moves, the simplex with it
   unfoldable pub lowered : Search → VoronoiSimplex → Round → Vec3 → Float → Turn
   lowered k s r dir t =
       let ltoi = _⊕_ f (r .ltoi) t in
       let shift = scaleV f (r .«curr_ray» .dir) t in
       let currRay = rayOf (addV f (r .«curr_ray» .origin) shift) (r .«curr_ray» .dir) in
-      cond (beyond k ltoi) (endedWith s Miss)
-      (onwardWith (modifyPnts f s (negV shift) .simplex) (roundOf ltoi currRay dir (r .proj) (largest f) false))
+      let u = modifyPnts f s (negV shift) in
+      cond (beyond k ltoi) (endedWith s Miss) (movedBy (u .simplex) (u .outcome) (roundOf ltoi currRay dir (r .proj) (largest f) false))
 
   abbrev pub clippedAt : Search → VoronoiSimplex → Round → Vec3 → Float → MaybeTime → Turn
   clippedAt k s r dir along (Time.Some t) = cond (lt along zeroF && lt zeroF t) (lowered k s r dir t) (onwardWith s r)

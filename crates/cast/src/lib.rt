@@ -3,8 +3,6 @@
 mod ray;
 mod rounds;
 
-pub use ray::MaybeTime;
 pub use ray::Ray;
-pub use ray::ray_toi_with_halfspace;
 pub use rounds::Cast;
 pub use rounds::minkowski_ray_cast;

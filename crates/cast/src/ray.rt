@@ -11,13 +11,13 @@ pub struct Ray {
 }
 
 // The Rust's `Option<Real>`.
-pub enum MaybeTime {
+pub(crate) enum MaybeTime {
     Some(f32),
     None,
 }
 
 // `relative_eq!(x, 0.0)`
-pub fn is_zero(x: f32) -> bool
+pub(crate) fn is_zero(x: f32) -> bool
     ensures { λ r. ⌜ r ≡ isZero binary32 x ⌝ }
 {
     let epsilon = number::epsilon();
@@ -25,7 +25,7 @@ pub fn is_zero(x: f32) -> bool
 }
 
 // The time at which the ray meets the plane through `center`: none where they are parallel, or the plane is behind.
-pub fn ray_toi_with_halfspace(center: Vec3, normal: Vec3, ray: Ray) -> MaybeTime
+pub(crate) fn ray_toi_with_halfspace(center: Vec3, normal: Vec3, ray: Ray) -> MaybeTime
     ensures { λ r. ⌜ r ≡ rayToiWithHalfspace binary32 center normal ray ⌝ }
 {
     let dpos = center.sub(ray.origin);

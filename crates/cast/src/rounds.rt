@@ -15,6 +15,7 @@ use shape::Shape;
 use shape::Vertex;
 use shape::from_shapes;
 use simplex::Answer;
+use simplex::Outcome;
 use simplex::VoronoiSimplex;
 use vector::Pose;
 use vector::Vec3;
@@ -137,7 +138,6 @@ fn last_chance_of(q: Query, simplex: VoronoiSimplex, r: Round) -> Cast
 }
 
 // A new lower bound: the ray's origin moves, and the simplex with it.
-// The simplex is one from the start on, so that `modify_pnts` never refuses it.
 fn lowered_turn(q: Query, simplex: VoronoiSimplex, r: Round, dir: Vec3, t: f32) -> Turn
     ensures { λ u. ⌜ u ≡ lowered binary32 (searchOf q) simplex r dir t ⌝ }
 {
@@ -151,6 +151,7 @@ fn lowered_turn(q: Query, simplex: VoronoiSimplex, r: Round, dir: Vec3, t: f32) 
     let shift = along.scale(t);
     let moved = simplex.modify_pnts(shift.neg());
     let shifted = moved.simplex;
+    let outcome = moved.outcome;
     let origin = from.add(shift);
     let proj = r.proj;
     let restored = number::largest();
@@ -162,7 +163,10 @@ fn lowered_turn(q: Query, simplex: VoronoiSimplex, r: Round, dir: Vec3, t: f32) 
         max_bound: restored,
         last_chance: false,
     };
-    onward(shifted, next)
+    match outcome {
+        Outcome::Done => onward(shifted, next),
+        Outcome::Refused => ended(shifted, Cast::Refused),
+    }
 }
 
 // The ray is clipped on the halfspace of the support point.
@@ -351,7 +355,8 @@ fn run_of(q: Query, simplex: VoronoiSimplex, start: Round) -> Cast
     Cast::Miss
 }
 
-// What stands before the loop: a new simplex of the support point against the ray, and its projection.
+// What stands before the loop: a new simplex of the support point against the ray, and its projection. `reset` takes a new simplex
+// always (`reset-done` of proofs/Start.antt), so its outcome is not looked at.
 fn start_of(q: Query) -> Turn
     ensures { λ u. ⌜ u ≡ startOf binary32 (searchOf q) ⌝ }
 {
