@@ -2,7 +2,6 @@
 use mathlib.Core.Path.{_≡_, refl}
 use mathlib.Core.Bool.{true}
 use Rattle.shape.specs.declared.vertex.Vertex.{Vertex}
-use Rattle.simplex.specs.declared.operations.Outcome.the-variants.{Done}
 use Rattle.simplex.specs.Simplex.{isSimplex, newSimplex, resetIn}
 use Rattle.simplex.specs.Operations.{doneWith, resetSimplex}
 

@@ -3,7 +3,7 @@
 -- on with the simplex and what the loop carries (`_▷_`). The rounds that are left, `100 - niter`, are the fuel of `runOf`: where none is left, the Rust returns `None`.
 -- What is `None` there is `Miss` here, number 6; where it panics the answer is `Refused`, number 2.
 use Prim.Native.Nat.{ℕ, zero, suc}
-use mathlib.Core.Bool.{Bool, true, false, not, _&&_, _||_, cond}
+use mathlib.Core.Bool.{Bool, false, not, _&&_, _||_, cond}
 use lib.Dec.{eqb}
 use lib.Ieee as Ieee
 use lib.Ieee.{Float, Format, binary32, lt, le}

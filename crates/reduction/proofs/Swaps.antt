@@ -30,7 +30,7 @@ still-small (x ∷ l) zero v (suc k) hv h = h
 still-small (x ∷ l) (suc i) v zero hv h = h
 still-small (x ∷ l) (suc i) v (suc k) hv h = still-small l i v k hv h
 
-is-small : (s : VoronoiSimplex) → Small s → isSimplex s ≡ true
+pub is-small : (s : VoronoiSimplex) → Small s → isSimplex s ≡ true
 unfolding isSimplex
 is-small s h =
     rw (

@@ -1,33 +1,23 @@
+-- `cast_record` returns `castRecord`, case by case.
 use borrow.Author.Needs.{needs}
+use lib.Ieee.{ofBits}
+use Rattle.vector.specs.Vector.{zeroV}
+use Rattle.cast.specs.Cast.{castNumber, castValues}
+use Rattle.embedding.specs.Impact.{castRecord}
 use Rattle.embedding.proofs.impact.cast_record.Statement.{statement}
 use Rattle.embedding.proofs.impact.cast_record.Tie as tie
-use Rattle.embedding.proofs.impact.cast_record.Reads as reads
-use Rattle.embedding.proofs.impact.cast_record.Lts as lts
 
--- src/impact.rt:25:22
-enum-known-cast : tie.Need-enum-known-cast
-enum-known-cast c = search needs
-
--- /work/h4/target/rlib/vector.rlib/interface/lang/src/vec3.rt:6:25
-enum-told : tie.Need-enum-told
-enum-told c = search needs
-
--- /work/h4/target/rlib/vector.rlib/interface/lang/src/vec3.rt:6:25
-enum-told-2 : tie.Need-enum-told-2
-enum-told-2 c = search needs
-
--- src/impact.rt:21:1
 returns : tie.Need-returns
-returns c = ?
+unfolding castRecord castNumber castValues zeroV ofBits
+returns c = simp (c .before .cast .given .1)
 
--- src/impact.rt:21:1
 returns-2 : tie.Need-returns-2
-returns-2 c = ?
+unfolding castRecord castNumber castValues zeroV ofBits
+returns-2 c = simp (c .enum-told .given .1)
 
--- src/impact.rt:21:1
 returns-3 : tie.Need-returns-3
-returns-3 c = ?
+unfolding castRecord castNumber castValues zeroV ofBits
+returns-3 c = simp (c .enum-told2 .given .1)
 
 pub cast-record-spec : {M : Type 1} → statement M
-cast-record-spec =
-    tie.close (tie.spec enum-known-cast enum-told enum-told-2 returns returns-2 returns-3)
+cast-record-spec = tie.close (tie.spec (λ c. search needs) (λ c. search needs) (λ c. search needs) returns returns-2 returns-3)

@@ -1,11 +1,14 @@
+-- `malformed_cast` returns `malformedCast`.
+use mathlib.Core.Path.{refl}
+use lib.Ieee.{ofBits}
+use Rattle.vector.specs.Vector.{zeroV}
+use Rattle.embedding.specs.Impact.{malformedCast}
 use Rattle.embedding.proofs.impact.malformed_cast.Statement.{statement}
 use Rattle.embedding.proofs.impact.malformed_cast.Tie as tie
-use Rattle.embedding.proofs.impact.malformed_cast.Reads as reads
-use Rattle.embedding.proofs.impact.malformed_cast.Lts as lts
 
--- src/impact.rt:43:1
 returns : tie.Need-returns
-returns c = ?
+unfolding malformedCast zeroV ofBits
+returns c = refl
 
 pub malformed-cast-spec : {M : Type 1} → statement M
 malformed-cast-spec = tie.close (tie.spec returns)
