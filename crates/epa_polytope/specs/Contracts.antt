@@ -1,0 +1,54 @@
+-- The one form of the contracts: what a function leaves and answers is what a step of the run does. Definitions only.
+-- A function that is lent some of the lists does so whatever the others hold: its contract is for all k : Lists, of k with the lent lists in their places.
+use mathlib.Core.Path.{_≡_}
+use mathlib.Core.List.{List}
+use denote.Ref.{RefT}
+use denote.Triple.Both.{Both}
+use Prim.Native.Nat.{ℕ}
+use lib.Ieee.{Float, binary32}
+use Rattle.epa_polytope.specs.declared.types.Step.{Step}
+use Rattle.epa_polytope.specs.declared.types.Step.the-variants.{Onward, Ended}
+use Rattle.epa_polytope.specs.Stores.{Lists, Tally, stateOf, lend}
+use Rattle.epa_polytope.specs.Steps.{Numbers, numbersOf, Out, onward, ended, Act, Nil}
+
+-- the numbers of the code
+abbrev pub single : Numbers
+single = numbersOf binary32
+
+-- ---- what a function does
+
+-- the step a takes the lists l and the tally c to the lists l' and the answer r, of which `out` says what step of the run it tells
+pub record Does {A R : Type 0} (out : Lists → R → Out A) (a : Act A) (l : Lists) (c : Tally) (l' : Lists) (r : R) : Type 0 where
+  pub same : out l' r ≡ a (stateOf l c)
+
+-- of an answer that is no more than the tally, or the run's end
+abbrev pub stepOut : Lists → Step → Out Nil
+stepOut l (Onward c) = onward tt (stateOf l c)
+stepOut l (Ended e c) = ended e (stateOf l c)
+
+-- ---- the slices
+
+-- a slice that a function is lent, as its contract names it: when it is called, and when it returns
+abbrev pub Lent : Type 0 → Type 0
+Lent X = Both (RefT (List X)) (RefT (List X))
+
+pub data Moment : Type 0 where
+  called : Moment
+  returned : Moment
+
+abbrev pub when : {X : Type 0} → Moment → Lent X → List X
+when called s = s .entry .now
+when returned s = s .exit .now
+
+-- all seven lent
+abbrev pub lent : Moment → Lent Float → Lent ℕ → Lent Float → Lent ℕ → Lent ℕ → Lent ℕ → Lent Float → Lists → Lists
+lent m v i x d e hi hk k = lend (when m v) (when m i) (when m x) (when m d) (when m e) (when m hi) (when m hk) k
+
+-- ---- the contract
+
+-- a function that is lent some of the lists does the step a, whatever the others hold: `slices` puts the lent ones, as they are at a moment, in the places of k's
+abbrev pub Gives : {A R : Type 0} → (Lists → R → Out A) → Act A → Tally → R → (Moment → Lists → Lists) → Type 0
+Gives out a c r slices = (k : Lists) → Does out a (slices called k) c (slices returned k) r
+
+abbrev pub Leaves : Act Nil → Tally → Step → (Moment → Lists → Lists) → Type 0
+Leaves = Gives stepOut

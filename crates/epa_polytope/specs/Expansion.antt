@@ -1,0 +1,137 @@
+-- An expansion of the polytope: of the loop of `EPA::closest_points` of src/query/epa/epa3.rs what follows the new vertex, with `can_be_seen_by`. Definitions only.
+use Prim.Native.Nat.{ℕ, zero, suc, _+_, _-_, _*_, _%_, max}
+use mathlib.Core.Bool.{Bool, _||_}
+use mathlib.Core.List.{List}
+use lib.ListN.{getD, set}
+use lib.Dec.{eqb}
+use lib.Ieee.{Format, lt, le, neg}
+use Rattle.number.specs.Constants.{epsTol}
+use Rattle.vector.specs.Vector.{subV, dotV}
+use Rattle.projection.specs.Triangle.{isAffinelyDependent}
+use Rattle.epa_polytope.specs.Stores.{Lists, State, stateOf, withFaceIds, withDeleted, withEdges, edgeCount, mostCount, roomFor, theEdges, vertexAt, normalOf, cornerIn}
+use Rattle.epa_polytope.specs.Stores.{linkedIn, pointAt, normalAt, cornerAt, deletedAt}
+use Rattle.epa_polytope.specs.Silhouette.{Question, WalkAnswer, Done, NoRoom, Mesh, Walked, walked, facing, pass}
+use Rattle.epa_polytope.specs.Steps.{Numbers, three, Out, onward, ended, Act, Nil, _>>=_, _>>_, look, put, ok, stopIf, doIf, branch, nothing, noRoom}
+use Rattle.epa_polytope.specs.Steps.{newFaceNearer, keyLater, noSilhouette, allDeleted, pushFace, queueFace, answer, madeOf}
+pub use Rattle.epa_polytope.specs.declared.types.Expansion.{Expansion}
+
+-- ---- the silhouette
+
+-- `self.faces[face_id.id].deleted = true`
+unfoldable pub delete : ℕ → Act Nil
+delete i = do
+  s ← look
+  put (stateOf (withDeleted (set (s .lists .deleted) i 1) (s .lists)) (s .tally))
+
+-- `can_be_seen_by`: whether the face of a question is seen from a vertex
+unfoldable pub canBeSeenBy : Format → Lists → ℕ → Question → Bool
+canBeSeenBy f l point q =
+    let p0 = vertexAt (l .vertices) (cornerIn (l .faceIds) (q .face) (q .corner)) .point in
+    let p1 = vertexAt (l .vertices) (cornerIn (l .faceIds) (q .face) ((q .corner + 1) % 3)) .point in
+    let p2 = vertexAt (l .vertices) (cornerIn (l .faceIds) (q .face) ((q .corner + 2) % 3)) .point in
+    let pt = vertexAt (l .vertices) point .point in
+    le (neg (epsTol f)) (dotV f (subV f pt p0) (normalOf (l .faceFloats) (q .face))) || isAffinelyDependent f (record { a = p1; b = p2; c = pt })
+
+-- the state after a pass of which n edges are recorded
+abbrev pub afterPass : State → Walked → ℕ → State
+afterPass s t n = stateOf (withDeleted (t .deleted) (withEdges (t .edges) (s .lists))) (edgeCount n (mostCount (max (s .tally .most) n) (s .tally)))
+
+abbrev pub passed : State → Walked → WalkAnswer → Out Nil
+passed s t (Done n) = onward tt (afterPass s t n)
+passed s t NoRoom = ended (noRoom theEdges) (afterPass s t (roomFor theEdges (s .lists)))
+
+-- what a walk from the vertex `point` reads
+abbrev pub meshOf : Numbers → Lists → ℕ → Mesh
+meshOf w l point = record { ids = l .faceIds; seen = canBeSeenBy (w .format) l point }
+
+-- `compute_silhouette` of the three neighbours of the face i, which is deleted already, in order
+unfoldable pub silhouette : Numbers → ℕ → ℕ → Act Nil
+silhouette w point i s =
+    let l = s .lists in
+    let ids = l .faceIds in
+    let t = pass (meshOf w l point) (walked (l .deleted) (l .edges) (Done 0)) (facing ids i 0) (facing ids i 1) (facing ids i 2) in
+    passed s t (t .answer)
+
+-- ---- the new faces
+
+-- `faces[i].adj[k] = j`
+unfoldable pub link : ℕ → ℕ → ℕ → Act Nil
+link i k j = do
+  s ← look
+  put (stateOf (withFaceIds (linkedIn (s .lists .faceIds) i k j) (s .lists)) (s .tally))
+
+-- a new face that holds the projection is queued, unless it lies nearer than the one that is expanded
+unfoldable pub queueNew : Numbers → Expansion → ℕ → Act Nil
+queueNew w u i = do
+  s ← look
+  let dist = dotV (w .format) (normalAt s i) (pointAt s (cornerAt s i 0))
+  branch (lt dist (u .dist)) (answer w newFaceNearer (u .face)) (queueFace keyLater (u .tol) i (neg dist))
+
+-- the face between the new vertex and the edge of the face f at its corner c
+unfoldable pub growAt : Numbers → Expansion → ℕ → ℕ → Act Nil
+growAt w u f c = do
+  s ← look
+  let n = s .tally .faces
+  let a = cornerAt s f ((c + 2) % 3)
+  let b = cornerAt s f ((c + 1) % 3)
+  let m = madeOf w s a b (u .point)
+  link f ((c + 1) % 3) n
+  pushFace (three a b (u .point)) (three f (n + 1) (n - 1)) m
+  doIf (m .holds) (queueNew w u n)
+
+-- of the i-th edge the face and the corner
+abbrev pub edgeFace : List ℕ → ℕ → ℕ
+edgeFace l i = getD l (i * 2) 0
+
+abbrev pub edgeCorner : List ℕ → ℕ → ℕ
+edgeCorner l i = getD l (i * 2 + 1) 0
+
+-- the new face of the i-th edge, if the edge's face is live
+unfoldable pub grow : Numbers → Expansion → ℕ → Act Nil
+grow w u i = do
+  s ← look
+  let f = edgeFace (s .lists .edges) i
+  doIf (eqb (deletedAt s f) 0) (growAt w u f (edgeCorner (s .lists .edges) i))
+
+-- `for edge in &self.silhouette`: n edges, from the i-th on
+unfoldable pub growAll : Numbers → Expansion → ℕ → ℕ → Act Nil
+growAll w u zero i = ok
+growAll w u (suc n) i = grow w u i >> growAll w u n (i + 1)
+
+-- a list with zeros at its first n pairs of places
+unfoldable pub blank : ℕ → List ℕ → List ℕ
+blank zero l = l
+blank (suc n) l = set (set (blank n l) (n * 2) 0) (n * 2 + 1) 0
+
+-- `self.silhouette.clear()`
+unfoldable pub clearEdges : Act Nil
+clearEdges = do
+  s ← look
+  put (stateOf (withEdges (blank (s .tally .edges) (s .lists .edges)) (s .lists)) (edgeCount 0 (s .tally)))
+
+-- the ring of new faces, from the face `first` on, is closed, and the edges are cleared
+unfoldable pub closeRing : ℕ → Act Nil
+closeRing first = do
+  s ← look
+  let made = s .tally .faces
+  stopIf (eqb made first) (nothing allDeleted)
+  link first 2 (made - 1)
+  link (made - 1) 1 first
+  clearEdges
+
+-- new faces join the new vertex to the silhouette
+unfoldable pub regrow : Numbers → Expansion → Act Nil
+regrow w u = do
+  s ← look
+  stopIf (eqb (s .tally .edges) 0) (nothing noSilhouette)
+  growAll w u (s .tally .edges) 0
+  closeRing (s .tally .faces)
+
+-- ---- the expansion
+
+-- the polytope grows to the new vertex: the faces that it sees go, and new ones come
+unfoldable pub expand : Numbers → Expansion → Act Nil
+expand w u = do
+  delete (u .face)
+  silhouette w (u .point) (u .face)
+  regrow w u

@@ -1,0 +1,73 @@
+-- The silhouette walk: `compute_silhouette` of src/query/epa/epa3.rs with `next_ccw_pt_id`, over any test of which faces are seen. Definitions only.
+use Prim.Native.Nat.{ℕ, zero, suc, _+_, _*_, _/_, _%_}
+use mathlib.Core.List.{List, [], _∷_}
+use mathlib.Core.Bool.{Bool, true, false, cond}
+use lib.ListN.{length, getD, set}
+use lib.Dec.{eqb, ltb}
+use Rattle.epa_polytope.specs.Stores.{cornerIn, neighbourIn, one}
+pub use Rattle.epa_polytope.specs.declared.types.WalkAnswer.{WalkAnswer}
+pub use Rattle.epa_polytope.specs.declared.types.WalkAnswer.the-variants.{Done, NoRoom}
+pub use Rattle.epa_polytope.specs.declared.types.Question.{Question}
+
+-- what a walk only reads: the faces' corners and neighbours, and which questions find a face seen
+pub record Mesh : Type 0 where
+  pub ids : List ℕ
+  pub seen : Question → Bool
+
+-- what it changes: which faces are deleted (0: live), and the edges; and how many these are, or that there was no room for one
+pub record Walked : Type 0 where
+  pub deleted : List ℕ
+  pub edges : List ℕ
+  pub answer : WalkAnswer
+
+abbrev pub walked : List ℕ → List ℕ → WalkAnswer → Walked
+walked deleted edges answer = record { deleted = deleted; edges = edges; answer = answer }
+
+-- `next_ccw_pt_id`: the corner after that of the face f which is the vertex p
+unfoldable pub nextCcwPtId : List ℕ → ℕ → ℕ → ℕ
+nextCcwPtId ids f p = cond (eqb (cornerIn ids f 0) p) 1 (cond (eqb (cornerIn ids f 1) p) 2 0)
+
+-- the question to the neighbour of the face f at its corner k
+unfoldable pub facing : List ℕ → ℕ → ℕ → Question
+facing ids f k = record { face = neighbourIn ids f k; corner = nextCcwPtId ids (neighbourIn ids f k) (cornerIn ids f k) }
+
+-- `self.silhouette.push(SilhouetteEdge::new(id, opp_pt_id))`, the n-th, if there is room for it
+abbrev pub edgePut : List ℕ → ℕ → Question → List ℕ
+edgePut l n q = set (set l (n * 2) (q .face)) (n * 2 + 1) (q .corner)
+
+abbrev pub notedIf : Bool → Walked → ℕ → Question → Walked
+notedIf true s n q = walked (s .deleted) (edgePut (s .edges) n q) (Done (n + 1))
+notedIf false s n q = walked (s .deleted) (s .edges) NoRoom
+
+abbrev pub noted : Walked → ℕ → Question → Walked
+noted s n q = notedIf (ltb n (length (s .edges) / 2)) s n q
+
+-- A question, where `go` asks those that follow from it. A walk that has found no room does nothing more; a deleted face does nothing; a live face that is not seen is an edge; one that is seen is
+-- deleted, and its two other neighbours are asked, in order
+abbrev pub askIf : WalkAnswer → Bool → Bool → Mesh → (Walked → Question → Walked) → Walked → Question → Walked
+askIf NoRoom live seen m go s q = s
+askIf (Done n) false seen m go s q = s
+askIf (Done n) true false m go s q = noted s n q
+askIf (Done n) true true m go s q =
+    go (go (walked (set (s .deleted) (q .face) 1) (s .edges) (s .answer)) (facing (m .ids) (q .face) ((q .corner + 2) % 3))) (facing (m .ids) (q .face) (q .corner))
+
+unfoldable pub ask : Mesh → (Walked → Question → Walked) → Walked → Question → Walked
+ask m go s q = askIf (s .answer) (eqb (getD (s .deleted) (q .face) 1) 0) (m .seen q) m go s q
+
+-- the walk, at most n questions deep
+unfoldable pub walkIn : ℕ → Mesh → Walked → Question → Walked
+walkIn zero m s q = s
+walkIn (suc n) m s q = ask m (walkIn n m) s q
+
+-- how many places of a list are zero
+unfoldable pub zeros : List ℕ → ℕ
+zeros [] = 0
+zeros (x ∷ xs) = one x + zeros xs
+
+-- the walk: no question that is as deep as there are live faces finds one that is live (`walk-step` of proofs/Walks.antt)
+unfoldable pub walk : Mesh → Walked → Question → Walked
+walk m s q = walkIn (zeros (s .deleted)) m s q
+
+-- a pass: three questions, in order
+unfoldable pub pass : Mesh → Walked → Question → Question → Question → Walked
+pass m s a b c = walk m (walk m (walk m s a) b) c
