@@ -61,7 +61,7 @@ fn rounds(check: &mut Check, count: u64, seed: u64) -> Compared {
         shapes::compare_vertices(check, &mut numbers)?;
         projections::compare_projections(check, &mut numbers)?;
         projections::compare_tests(check, &mut numbers)?;
-        simplices::compare_simplices(check, &mut numbers)?;
+        simplices::compare_simplices(check, &mut numbers, reductions::compare_locations)?;
         searches::compare_searches(check, &mut numbers)?;
     }
     Ok(())

@@ -4,9 +4,11 @@ use crate::check::{caught, Check, Compared};
 use crate::families::Numbers;
 use crate::port::{self, Changed, Simplex, Vertex};
 use crate::random::Random;
-use crate::reductions::compare_locations;
 use glamx::Vec3;
 use parry3d::query::gjk::{CsoPoint, VoronoiSimplex};
+
+/// What else is compared on each simplex.
+pub type OnEach = fn(&mut Check, &mut Numbers, &Simplex) -> Compared;
 
 /// How many operations follow each other.
 const STEPS: usize = 4;
@@ -246,7 +248,7 @@ fn reduction(before: &Simplex, after: &Simplex, refused: bool) -> &'static str {
     }
 }
 
-pub fn compare_simplices(check: &mut Check, n: &mut Numbers) -> Compared {
+pub fn compare_simplices(check: &mut Check, n: &mut Numbers, on_each: OnEach) -> Compared {
     let mut s = if n.random.chance(25) {
         let new = Simplex::from(&VoronoiSimplex::new());
         check.same("new", &(), new, port::leaf_simplex_new())?;
@@ -256,7 +258,7 @@ pub fn compare_simplices(check: &mut Check, n: &mut Numbers) -> Compared {
     };
     for _ in 0..STEPS {
         compare_reads(check, n, &s)?;
-        compare_locations(check, n, &s)?;
+        on_each(check, n, &s)?;
         s = compare_changes(check, n, &s)?;
     }
     Ok(())
