@@ -52,3 +52,7 @@ Gives out a c r slices = (k : Lists) → Does out a (slices called k) c (slices 
 
 abbrev pub Leaves : Act Nil → Tally → Step → (Moment → Lists → Lists) → Type 0
 Leaves = Gives stepOut
+
+-- a function that only reads answers what d says of the lists, whatever those hold that it is not lent
+abbrev pub Reads : {R : Type 0} → (Lists → R) → R → (Lists → Lists) → Type 0
+Reads d r slices = (k : Lists) → r ≡ d (slices k)
