@@ -1,0 +1,141 @@
+// Faces: `Face` of epa3.rs, with `ccw_face_normal` of utils. What each function returns is a definition of the crate `epa_polytope`, at binary32,
+// whatever the lists hold that it is not lent.
+ghost use mathlib.Core.Path.{_≡_};
+ghost use lib.Ieee.{binary32};
+ghost use Rattle.epa_polytope.specs.Face.{faceNormal, faceNew, weightsOr, holdsAt};
+ghost use Rattle.epa_polytope.specs.Contracts.{Reads};
+ghost use Rattle.epa_polytope.specs.Stores.{withVertices, withFaceIds, withFaceFloats};
+ghost use Rattle.epa_polytope.specs.Silhouette.{nextCcwPtId, facing};
+ghost use Rattle.epa_polytope.specs.Steps.{weighted, answerOf};
+ghost use Rattle.epa_polytope.specs.Expansion.{canBeSeenBy};
+use epa_polytope::End;
+use epa_polytope::Found;
+use epa_polytope::Made;
+use epa_polytope::Question;
+use epa_stores::corner_at;
+use epa_stores::neighbour_at;
+use epa_stores::normal_of;
+use epa_stores::vertex_at;
+use epa_stores::weights_of;
+use projection::BarycentricCoordinates;
+use projection::Triangle;
+use projection::TrianglePointLocation;
+use projection::is_inside_eps;
+use vector::Vec3;
+
+// `ccw_face_normal`, or zero where it has none.
+fn face_normal(a: Vec3, b: Vec3, c: Vec3) -> Vec3
+    ensures { λ r. ⌜ r ≡ faceNormal binary32 a b c ⌝ }
+{
+    let ab = b.sub(a);
+    let ac = c.sub(a);
+    ab.cross(ac).normalize_or_zero()
+}
+
+// `unwrap`, and zeros for a solid.
+fn weights_or(w: BarycentricCoordinates) -> Vec3
+    ensures { λ r. ⌜ r ≡ weightsOr w ⌝ }
+{
+    match w {
+        BarycentricCoordinates::Some(x, y, z) => Vec3 { x, y, z },
+        BarycentricCoordinates::None => Vec3::ZERO,
+        BarycentricCoordinates::Refused => Vec3::ZERO,
+    }
+}
+
+// Whether a face holds a projection there: at a corner or on an edge if it is `near` the origin.
+fn holds_at(near: bool, location: TrianglePointLocation) -> bool
+    ensures { λ r. ⌜ r ≡ holdsAt near location ⌝ }
+{
+    match location {
+        TrianglePointLocation::OnVertex(_) => near,
+        TrianglePointLocation::OnEdge(_, _, _) => near,
+        TrianglePointLocation::OnFace(_, _, _, _) => true,
+        TrianglePointLocation::OnSolid => false,
+    }
+}
+
+// `Face::new`
+pub fn face_new(a: Vec3, b: Vec3, c: Vec3) -> Made
+    ensures { λ r. ⌜ r ≡ faceNew binary32 a b c ⌝ }
+{
+    let tri = Triangle { a, b, c };
+    let proj = tri.project_local_point_and_get_location(Vec3::ZERO);
+    let location = proj.location;
+    let near = is_inside_eps(proj.point, number::polytope_tol());
+    Made {
+        normal: face_normal(a, b, c),
+        weights: weights_or(location.barycentric_coordinates()),
+        holds: holds_at(near, location),
+    }
+}
+
+// The sum of three points by their weights.
+fn weighted_sum(u: Vec3, a: Vec3, b: Vec3, c: Vec3) -> Vec3
+    ensures { λ r. ⌜ r ≡ weighted binary32 u a b c ⌝ }
+{
+    let ab = a.scale(u.x).add(b.scale(u.y));
+    ab.add(c.scale(u.z))
+}
+
+// `Face::closest_points` of the face i, with its normal.
+pub fn answer_of(why: Found, vertices: &[f32], ids: &[usize], floats: &[f32], i: usize) -> End
+    ensures { λ r. ⌜ Reads (λ l. answerOf binary32 why l i) r (λ k. withVertices (now (vertices .entry)) (withFaceIds (now (ids .entry)) (withFaceFloats (now (floats .entry)) k))) ⌝ }
+{
+    let a = vertex_at(vertices, corner_at(ids, i, 0));
+    let b = vertex_at(vertices, corner_at(ids, i, 1));
+    let c = vertex_at(vertices, corner_at(ids, i, 2));
+    let u = weights_of(floats, i);
+    let point1 = weighted_sum(u, a.orig1, b.orig1, c.orig1);
+    let point2 = weighted_sum(u, a.orig2, b.orig2, c.orig2);
+    End::Answers(why, point1, point2, normal_of(floats, i))
+}
+
+// `next_ccw_pt_id`: the corner after that of the face which is the vertex `id`.
+pub fn next_ccw_pt_id(ids: &[usize], face: usize, id: usize) -> usize
+    ensures { λ r. ⌜ r ≡ nextCcwPtId (now (ids .entry)) face id ⌝ }
+{
+    if corner_at(ids, face, 0) == id {
+        return 1;
+    }
+    if corner_at(ids, face, 1) == id {
+        return 2;
+    }
+    0
+}
+
+// The question to the neighbour k of the face.
+pub fn facing_at(ids: &[usize], face: usize, k: usize) -> Question
+    ensures { λ r. ⌜ r ≡ facing (now (ids .entry)) face k ⌝ }
+{
+    let next = neighbour_at(ids, face, k);
+    let corner = next_ccw_pt_id(ids, next, corner_at(ids, face, k));
+    Question { face: next, corner }
+}
+
+// `can_be_seen_by`: whether the face of a question is seen from the vertex `point`. Its side opposite the question's corner is the one
+// that the walk came across.
+pub fn can_be_seen_by(
+    vertices: &[f32],
+    ids: &[usize],
+    floats: &[f32],
+    point: usize,
+    question: Question,
+) -> bool
+    ensures { λ r. ⌜ Reads (λ l. canBeSeenBy binary32 l point question) r (λ k. withVertices (now (vertices .entry)) (withFaceIds (now (ids .entry)) (withFaceFloats (now (floats .entry)) k))) ⌝ }
+{
+    let face = question.face;
+    let corner = question.corner;
+    let p0 = vertex_at(vertices, corner_at(ids, face, corner)).point;
+    // `% 3` first, so that no sum overflows; the value is the Rust's
+    let p1 = vertex_at(vertices, corner_at(ids, face, (corner % 3 + 1) % 3)).point;
+    let p2 = vertex_at(vertices, corner_at(ids, face, (corner % 3 + 2) % 3)).point;
+    let pt = vertex_at(vertices, point).point;
+    let away = pt.sub(p0).dot(normal_of(floats, face));
+    let tri = Triangle {
+        a: p1,
+        b: p2,
+        c: pt,
+    };
+    (away >= -number::eps_tol()) | tri.is_affinely_dependent()
+}

@@ -1,0 +1,120 @@
+// The pushes of the polytope's run, over lists that the caller lends: a vertex, a face, and a face's entry in the heap, each refused
+// where its store has no place left. What each leaves and answers is a step of the run that the crate `epa_polytope` defines.
+ghost use mathlib.Core.Path.{_≡_};
+ghost use Prim.Native.Nat.{min};
+ghost use Rattle.epa_polytope.specs.Stores.{withVertices, withFaceIds, withFaceFloats, withDeleted, withHeap, faceRoom, putFace};
+ghost use Rattle.epa_polytope.specs.Steps.{pushVertex, pushFace, enqueue, queueFace};
+ghost use Rattle.epa_polytope.specs.Contracts.{Reads, Leaves, when};
+use epa_polytope::End;
+use epa_polytope::Lost;
+use epa_polytope::Made;
+use epa_polytope::Step;
+use epa_polytope::Store;
+use epa_polytope::Tally;
+use epa_polytope::Three;
+use epa_stores::put_made;
+use epa_stores::put_vertex;
+use epa_stores::set_corner;
+use epa_stores::set_deleted;
+use epa_stores::set_neighbour;
+use heap::Pushed;
+use shape::Vertex;
+
+// A vertex is pushed, where there is room.
+pub fn push_vertex(vertices: &mut [f32], tally: Tally, v: Vertex) -> Step
+    ensures { λ r. ⌜ Leaves (pushVertex v) tally r (λ m k. withVertices (when m vertices) k) ⌝ }
+{
+    let n = tally.vertices;
+    if vertices.len() / 9 <= n {
+        return Step::Ended(End::NoRoom(Store::Vertices), tally);
+    }
+    put_vertex(vertices, n, v);
+    let mut next = tally;
+    next.vertices = n + 1;
+    Step::Onward(next)
+}
+
+fn smaller(a: usize, b: usize) -> usize
+    ensures { λ r. ⌜ r ≡ min a b ⌝ }
+{
+    if a < b { a } else { b }
+}
+
+// For how many faces there is room.
+fn face_room(ids: &[usize], floats: &[f32], deleted: &[u8]) -> usize
+    ensures { λ r. ⌜ Reads faceRoom r (λ k. withFaceIds (now (ids .entry)) (withFaceFloats (now (floats .entry)) (withDeleted (now (deleted .entry)) k))) ⌝ }
+{
+    smaller(smaller(ids.len() / 6, floats.len() / 6), deleted.len())
+}
+
+// A face's six numbers are written at the place n.
+fn put_face(ids: &mut [usize], n: usize, corners: Three, neighbours: Three)
+    ensures { λ r. ⌜ now (ids .exit) ≡ putFace (now (ids .entry)) n corners neighbours ⌝ }
+{
+    set_corner(ids, n, 0, corners.a);
+    set_corner(ids, n, 1, corners.b);
+    set_corner(ids, n, 2, corners.c);
+    set_neighbour(ids, n, 0, neighbours.a);
+    set_neighbour(ids, n, 1, neighbours.b);
+    set_neighbour(ids, n, 2, neighbours.c);
+}
+
+// A live face is pushed, where there is room.
+pub fn push_face(
+    ids: &mut [usize],
+    floats: &mut [f32],
+    deleted: &mut [u8],
+    tally: Tally,
+    corners: Three,
+    neighbours: Three,
+    made: Made,
+) -> Step
+    ensures { λ r. ⌜ Leaves (pushFace corners neighbours made) tally r (λ m k. withFaceIds (when m ids) (withFaceFloats (when m floats) (withDeleted (when m deleted) k))) ⌝ }
+{
+    let n = tally.faces;
+    if face_room(ids, floats, deleted) <= n {
+        return Step::Ended(End::NoRoom(Store::Faces), tally);
+    }
+    put_face(ids, n, corners, neighbours);
+    put_made(floats, n, made);
+    set_deleted(deleted, n, 0);
+    let mut next = tally;
+    next.faces = n + 1;
+    Step::Onward(next)
+}
+
+// A face is queued by its key, where there is room.
+pub fn enqueue(
+    heap_ids: &mut [usize],
+    heap_keys: &mut [f32],
+    tally: Tally,
+    id: usize,
+    neg_dist: f32,
+) -> Step
+    ensures { λ r. ⌜ Leaves (enqueue id «neg_dist») tally r (λ m k. withHeap (when m «heap_ids») (when m «heap_keys») k) ⌝ }
+{
+    let Pushed::Done(count) = heap::push(heap_ids, heap_keys, tally.heap, id, neg_dist) else {
+        return Step::Ended(End::NoRoom(Store::Heap), tally);
+    };
+    let mut next = tally;
+    next.heap = count;
+    Step::Onward(next)
+}
+
+// `self.heap.push(FaceId::new(id, neg_dist, tol)?)`: a key above the tolerance is refused. A NaN is not above it.
+pub fn queue_face(
+    heap_ids: &mut [usize],
+    heap_keys: &mut [f32],
+    tally: Tally,
+    why: Lost,
+    tol: f32,
+    id: usize,
+    neg_dist: f32,
+) -> Step
+    ensures { λ r. ⌜ Leaves (queueFace why tol id «neg_dist») tally r (λ m k. withHeap (when m «heap_ids») (when m «heap_keys») k) ⌝ }
+{
+    if neg_dist > tol {
+        return Step::Ended(End::Nothing(why), tally);
+    }
+    enqueue(heap_ids, heap_keys, tally, id, neg_dist)
+}
