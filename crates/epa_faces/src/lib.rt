@@ -80,7 +80,8 @@ fn weighted_sum(u: Vec3, a: Vec3, b: Vec3, c: Vec3) -> Vec3
 
 // `Face::closest_points` of the face i, with its normal.
 pub fn answer_of(why: Found, vertices: &[f32], ids: &[usize], floats: &[f32], i: usize) -> End
-    ensures { λ r. ⌜ Reads (λ l. answerOf binary32 why l i) r (λ k. withVertices (now (vertices .entry)) (withFaceIds (now (ids .entry)) (withFaceFloats (now (floats .entry)) k))) ⌝ }
+    ensures { λ r. ⌜ Reads (λ l. answerOf binary32 why l i) r
+        (λ k. withVertices (now (vertices .entry)) (withFaceIds (now (ids .entry)) (withFaceFloats (now (floats .entry)) k))) ⌝ }
 {
     let a = vertex_at(vertices, corner_at(ids, i, 0));
     let b = vertex_at(vertices, corner_at(ids, i, 1));
@@ -122,7 +123,8 @@ pub fn can_be_seen_by(
     point: usize,
     question: Question,
 ) -> bool
-    ensures { λ r. ⌜ Reads (λ l. canBeSeenBy binary32 l point question) r (λ k. withVertices (now (vertices .entry)) (withFaceIds (now (ids .entry)) (withFaceFloats (now (floats .entry)) k))) ⌝ }
+    ensures { λ r. ⌜ Reads (λ l. canBeSeenBy binary32 l point question) r
+        (λ k. withVertices (now (vertices .entry)) (withFaceIds (now (ids .entry)) (withFaceFloats (now (floats .entry)) k))) ⌝ }
 {
     let face = question.face;
     let corner = question.corner;
