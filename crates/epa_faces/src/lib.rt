@@ -4,7 +4,7 @@ ghost use mathlib.Core.Path.{_≡_};
 ghost use lib.Ieee.{binary32};
 ghost use Rattle.epa_polytope.specs.Face.{faceNormal, faceNew, weightsOr, holdsAt};
 ghost use Rattle.epa_polytope.specs.Contracts.{Reads};
-ghost use Rattle.epa_polytope.specs.Stores.{withVertices, withFaceIds, withFaceFloats};
+ghost use Rattle.epa_polytope.specs.Stores.{vertexAt, withVertices, withFaceIds, withFaceFloats};
 ghost use Rattle.epa_polytope.specs.Silhouette.{nextCcwPtId, facing};
 ghost use Rattle.epa_polytope.specs.Steps.{weighted, answerOf};
 ghost use Rattle.epa_polytope.specs.Expansion.{canBeSeenBy};
@@ -68,6 +68,17 @@ pub fn face_new(a: Vec3, b: Vec3, c: Vec3) -> Made
         weights: weights_or(location.barycentric_coordinates()),
         holds: holds_at(near, location),
     }
+}
+
+// `Face::new` of three vertices.
+pub fn made_of(vertices: &[f32], a: usize, b: usize, c: usize) -> Made
+    ensures { λ r. ⌜ r ≡ faceNew binary32 (vertexAt (now (vertices .entry)) a .point) (vertexAt (now (vertices .entry)) b .point)
+        (vertexAt (now (vertices .entry)) c .point) ⌝ }
+{
+    let p0 = vertex_at(vertices, a).point;
+    let p1 = vertex_at(vertices, b).point;
+    let p2 = vertex_at(vertices, c).point;
+    face_new(p0, p1, p2)
 }
 
 // The sum of three points by their weights.

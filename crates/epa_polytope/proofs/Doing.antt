@@ -45,6 +45,10 @@ pub here : {A R : Type 0} {out : Lists → R → Out A} {a : Act A} {l0 l1 : Lis
     → Does out a l c (l1 l) r
 here {A} {R} {out} {a} {l0} {l1} {c} {r} g l e = subst (λ (x : Lists). Does out a x c (l1 l) r) e (g l)
 
+-- and what a function that only reads answers
+pub read-here : {R : Type 0} (d : Lists → R) {l0 : Lists → Lists} {r : R} → ((k : Lists) → r ≡ d (l0 k)) → (l : Lists) → l0 l ≡ l → r ≡ d l
+read-here d g l e = g l ∙ ap d e
+
 -- after a first step that answers no more than the tally, or the run's end
 module _ {B R : Type 0} {out : Lists → R → Out B} {a : Act Nil} (b : Act B) {l l1 : Lists} {c : Tally} {r : Step} {x : Tally} (does : Does stepOut a l c l1 r) where
   -- it goes on, and the second does the rest
