@@ -65,7 +65,8 @@ fn grow_at(
     opp_pt_id: usize,
 ) -> Step
     ensures { λ r. ⌜ Leaves (growAt single expansion face «opp_pt_id») tally r
-        (λ m k. withVertices (when m vertices) (withFaceIds (when m ids) (withFaceFloats (when m floats) (withDeleted (when m deleted) (withHeap (when m «heap_ids») (when m «heap_keys») k))))) ⌝ }
+        (λ m k. withVertices (when m vertices) (withFaceIds (when m ids)
+        (withFaceFloats (when m floats) (withDeleted (when m deleted) (withHeap (when m «heap_ids») (when m «heap_keys») k))))) ⌝ }
 {
     let new_face_id = tally.faces;
     // `% 3` first, so that no sum overflows; the value is the Rust's
