@@ -13,10 +13,10 @@ use Rattle.heap.specs.Heap.{Entry, entryAt}
 use Rattle.epa_polytope.specs.Silhouette.{Walked, walked, facing, pass, Question, WalkAnswer, Done, NoRoom}
 use Rattle.epa_polytope.specs.Start.{World, formatOf}
 use Rattle.epa_polytope.specs.Stores.{State, theEdges, theFaces, normalAt, pointAt, cornerAt, deletedAt, vertexAt, Lists, Three, roomFor, heapOf, Tally, Made, edgeCount, mostCount}
-use Rattle.epa_polytope.specs.Steps.{End, noRoom, nothing, noSilhouette, allDeleted, keyLater, Found, newFaceNearer, converged, stuck, heapEmpty, enoughExpansions, Out, Act, next, _>>=_, _>>_, Nil, pure, stop, look, put, stopIf, doIf, three, pushFace, madeOf, answer, Numbers}
+use Rattle.epa_polytope.specs.Steps.{noRoom, nothing, noSilhouette, allDeleted, keyLater, Found, newFaceNearer, converged, stuck, heapEmpty, enoughExpansions, Out, Act, next, _>>=_, _>>_, Nil, pure, stop, look, put, stopIf, doIf, three, pushFace, madeOf, answer, Numbers}
 use Rattle.epa_polytope.specs.Expansion.{delete, canBeSeenBy, meshOf, afterPass, passed, silhouette, link, Expansion, queueNew, growAt, grow, growAll, clearEdges, closeRing, regrow, expand, edgeFace, edgeCorner}
 use Rattle.epa_polytope.specs.Run.{Best, bettered, settle, visit, visitIf, popEntry, popLive, complete, iterate, loop}
-use Rattle.epa_polytope.specs.Bounds.{CornersIn, NeighboursIn, theLoop}
+use Rattle.epa_polytope.specs.Bounds.{CornersIn, NeighboursIn}
 use Rattle.epa_polytope.specs.Same.{Alike, Same, short, alike}
 use Rattle.epa_polytope.proofs.Alike.{alike-none, alike-entry}
 use Rattle.epa_polytope.proofs.Along.{Along, along-pass, alike-facing}
@@ -25,7 +25,7 @@ use Rattle.epa_polytope.proofs.Walks.{Asked, asked-facing}
 use Rattle.epa_polytope.proofs.Lengths.{SameLength, same-rooms, same-walked}
 use Rattle.epa_polytope.proofs.Moves.{withFace, withLink}
 use Rattle.epa_polytope.proofs.Steps.{meets-vertex}
-use Rattle.epa_polytope.proofs.Growth.{Ready, Visited, Growing, Ending, grown, growing, newer, meets-delete, meets-silhouette, meets-grow, meets-growAll, meets-expand}
+use Rattle.epa_polytope.proofs.Growth.{Ready, Visited, Growing, grown, growing, newer, meets-delete, meets-silhouette, meets-grow, meets-growAll, meets-expand}
 use Rattle.epa_polytope.proofs.Iterations.{IsLive, Best-ready, meets-popEntry, meets-popLive, visited, better-in, meets-visitIf, meets-complete, meets-iterate}
 use Rattle.epa_polytope.proofs.Start.{nothing-kept}
 use Rattle.epa_polytope.proofs.Twins.{same-heaps, same-vertex, same-point, same-face-normal, same-corner, same-made, same-answer, Twin, twin-face, twin-pop, twin-link, twin-delete, twin-clear, twin-complete, Twins, both-on, first-short, second-short, twins-bind, twins-then, twins-look, twins-pure, twins-ok, twins-check, twins-doIf, twins-branch, twins-vertex, twins-queue, twins-answer}
@@ -159,9 +159,6 @@ module _ (lent lent' : Lists) where
   -- ---- an expansion
 
   module _ (f : ℕ) (w : Numbers) (k : ℕ) (u : Expansion) where
-    abbrev E : End → State → Type 0
-    E = Ending None theLoop f
-
     module _ (first all : ℕ) (faceIn : u .face < first) where
       pub twins-queueNew : (left : ℕ) (s t : State) (i : ℕ) → i < s .tally .faces → Growing None f k (u .point) first all left s → s .tally .heap < s .tally .faces → Twin lent lent' s t
           → Twins lent lent' (queueNew w u i s) (queueNew w u i t)
@@ -288,9 +285,6 @@ module _ (lent lent' : Lists) where
   -- ---- the loop
 
   module _ (f : ℕ) (w : World) where
-    abbrev E2 : End → State → Type 0
-    E2 = Ending None theLoop f
-
     pub twins-popEntry : (n : ℕ) (s t : State) → s .tally .heap ≡ suc n → Twin lent lent' s t → Twins lent lent' (popEntry n s) (popEntry n t)
     unfolding popEntry _>>=_ _>>_ look put pure
     twins-popEntry n s t e x = both-on lent lent' (entryAt (heapOf s) 0) (entryAt (heapOf t) 0) (alike-entry (s .tally .heap) (heapOf s) (heapOf t) 0 (omega arith) (same-heaps s t (x .same))) (twin-pop lent lent' s t n e x)

@@ -7,10 +7,7 @@ ghost use mathlib.Core.List.{[]};
 ghost use lib.ListN.{length, getD, set};
 ghost use lib.Seq.{sets};
 ghost use Rattle.epa_polytope.specs.Stores.{vecAt, vecCells, vertexAt, putVertex, normalOf, weightsOf, putMade, liveTo, cornerIn, neighbourIn, linkedIn};
-ghost use Rattle.epa_polytope.specs.Silhouette.{edgePut};
-ghost use Rattle.epa_polytope.specs.Expansion.{edgeFace, edgeCorner, blank};
 use epa_polytope::Made;
-use epa_polytope::Question;
 use shape::Vertex;
 use vector::Vec3;
 
