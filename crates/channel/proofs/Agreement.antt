@@ -1,26 +1,25 @@
 -- CHANNELS AGREE: on the same shapes, pose, direction, distance and flag, over stores of any lengths and any former content, two channels that are not refused for room answer the same, floats and
--- counts. GJK reads no store, and the polytope's answers agree. Assumes nothing.
+-- counts. GJK reads no store, and the polytope's answers agree. Any format. Assumes nothing.
 use mathlib.Core.Path.{_≡_, refl, ap, sym, _∙_}
 use mathlib.Core.Bool.{Bool}
-use lib.Ieee.{Float}
+use lib.Ieee.{Float, Format}
 use Rattle.vector.specs.declared.vec3.Vec3.{Vec3}
 use Rattle.vector.specs.declared.pose.Pose.{Pose}
-use Rattle.shape.specs.declared.shape.Shape.{Shape}
+use Rattle.shape.specs.declared.support.Shape.{Shape}
 use Rattle.gjk.specs.declared.rounds.GJKResult.{GJKResult}
 use Rattle.gjk.specs.declared.rounds.GJKResult.the-variants.{Intersection, ClosestPoints, Proximity, NoIntersection, Refused}
-use Rattle.polytope.specs.Polytope.{State, roomsOf}
-use Rattle.polytope.specs.Same.{Equivalent}
-use Rattle.polytope.specs.declared.types.Store.{Store}
-use Rattle.polytope.specs.declared.types.End.{End}
-use Rattle.polytope.specs.declared.types.End.the-variants.{NoRoom}
+use Rattle.epa_polytope.specs.Stores.{Lists}
+use Rattle.epa_polytope.specs.Same.{Equivalent}
+use Rattle.epa_polytope.specs.declared.types.Store.{Store}
+use Rattle.epa_polytope.specs.declared.types.End.{End}
+use Rattle.epa_polytope.specs.declared.types.End.the-variants.{NoRoom}
 use Rattle.epa.specs.declared.types.Answer as Epa
-use Rattle.epa.specs.Final.{Final, answered, penetrationOver}
+use Rattle.epa.specs.Final.{Final, answered, penetration}
 use Rattle.epa.specs.Final as Runs
 use Rattle.epa.proofs.Agreement.{penetrations-agree, penetrations-same}
 use Rattle.lines.specs.declared.line.Outcome.{Outcome}
 use Rattle.outcome.specs.Outcome.{countsOf, endedAs, outcomeOf}
-use Rattle.channel.specs.Channel.{distance, byResult, separated, separatedOver, Placed}
-use Rattle.channel.proofs.Ample.{lentOf}
+use Rattle.channel.specs.Channel.{distance, byResult, separated, Placed}
 
 -- what is placed by its letter is placed by its end
 placed-run : (x : Epa.Answer) → Placed (outcomeOf x) → Runs.Placed x
@@ -40,20 +39,20 @@ same-result Refused a b kA kB eA eB same = eA _ ∙ sym (eB _)
 met : (q : GJKResult) (a : Final Epa.Answer) (kept : Outcome → Final Outcome) → q ≡ Intersection → Placed (byResult q (answered outcomeOf a) kept .answer) → Runs.Placed (a .answer)
 met q a kept e p = placed-run (a .answer) (rw e at p)
 
-module _ (m : Pose) (g1 g2 : Shape) (dir : Vec3) (maxDist : Float) (exact : Bool) (s t : State) where
+module _ (f : Format) (m : Pose) (g1 g2 : Shape) (dir : Vec3) (maxDist : Float) (exact : Bool) (l k : Lists) where
   -- NEITHER REFUSED FOR ROOM
-  pub channels-agree : Placed (separatedOver m g1 g2 dir maxDist exact s .answer) → Placed (separatedOver m g1 g2 dir maxDist exact t .answer)
-      → separatedOver m g1 g2 dir maxDist exact s .answer ≡ separatedOver m g1 g2 dir maxDist exact t .answer
+  pub channels-agree : Placed (separated f m g1 g2 dir maxDist exact l .answer) → Placed (separated f m g1 g2 dir maxDist exact k .answer)
+      → separated f m g1 g2 dir maxDist exact l .answer ≡ separated f m g1 g2 dir maxDist exact k .answer
   unfolding separated
   channels-agree p q =
-      let g = distance m g1 g2 dir maxDist exact in
-      same-result (g .result) (penetrationOver m g1 g2 (g .simplex) (lentOf s)) (penetrationOver m g1 g2 (g .simplex) (lentOf t)) _ _ (λ o. refl) (λ o. refl)
-      (λ e. penetrations-agree m g1 g2 (g .simplex) (lentOf s) (lentOf t) (met (g .result) _ _ e p) (met (g .result) _ _ e q) .answers)
+      let g = distance f m g1 g2 dir maxDist exact in
+      same-result (g .result) (penetration f m g1 g2 (g .simplex) l) (penetration f m g1 g2 (g .simplex) k) _ _ (λ o. refl) (λ o. refl)
+      (λ e. penetrations-agree f m g1 g2 (g .simplex) l k (met (g .result) _ _ e p) (met (g .result) _ _ e q) .answers)
 
   -- THE SAME ROOM OF EACH STORE, or enough of it in both: R too is the same, with the same counts
-  pub channels-same : ((y : Store) → Equivalent (roomsOf s) (roomsOf t) y) → separatedOver m g1 g2 dir maxDist exact s .answer ≡ separatedOver m g1 g2 dir maxDist exact t .answer
-  unfolding separated roomsOf
+  pub channels-same : ((y : Store) → Equivalent l k y) → separated f m g1 g2 dir maxDist exact l .answer ≡ separated f m g1 g2 dir maxDist exact k .answer
+  unfolding separated
   channels-same rooms =
-      let g = distance m g1 g2 dir maxDist exact in
-      same-result (g .result) (penetrationOver m g1 g2 (g .simplex) (lentOf s)) (penetrationOver m g1 g2 (g .simplex) (lentOf t)) _ _ (λ o. refl) (λ o. refl)
-      (λ _. penetrations-same m g1 g2 (g .simplex) (lentOf s) (lentOf t) rooms .answers)
+      let g = distance f m g1 g2 dir maxDist exact in
+      same-result (g .result) (penetration f m g1 g2 (g .simplex) l) (penetration f m g1 g2 (g .simplex) k) _ _ (λ o. refl) (λ o. refl)
+      (λ _. penetrations-same f m g1 g2 (g .simplex) l k rooms .answers)

@@ -1,27 +1,24 @@
--- DEMAND 3 of the channel: lent 105 vertices, 10,710 faces, 206 edges and 10,710 heap entries it is never refused for room, whatever the shapes and the numbers. Assumes nothing.
+-- DEMAND 3 of the channel: lent 105 vertices, 10,710 faces, 206 edges and 10,710 heap entries it is never refused for room, whatever the shapes and the numbers. Any format. Assumes nothing.
 use mathlib.Core.Path.{_≡_, refl, sym, ap, _∙_}
 use mathlib.Core.Bool.{Bool}
 use native.Mathlib.Omega.{arith}
-use lib.Ieee.{Float}
+use lib.Ieee.{Float, Format}
 use Rattle.vector.specs.declared.vec3.Vec3.{Vec3}
 use Rattle.vector.specs.declared.pose.Pose.{Pose}
-use Rattle.shape.specs.declared.shape.Shape.{Shape}
+use Rattle.shape.specs.declared.support.Shape.{Shape}
 use Rattle.gjk.specs.declared.rounds.GJKResult.{GJKResult}
 use Rattle.gjk.specs.declared.rounds.GJKResult.the-variants.{Intersection, ClosestPoints, Proximity, NoIntersection, Refused}
 use Rattle.gjk.specs.Gjk.{gjkNumber}
-use Rattle.polytope.specs.Polytope.{State, stateOf, noneYet, refusal, roomsOf}
-use Rattle.polytope.specs.Bounds.{Ample}
-use Rattle.polytope.specs.declared.types.End.{End}
-use Rattle.polytope.specs.declared.types.End.the-variants.{Answers, Nothing, Panics, NoRoom}
-use Rattle.polytope.specs.declared.types.Store.{Store}
+use Rattle.epa_polytope.specs.Stores.{Lists}
+use Rattle.epa_polytope.specs.Steps.{refusal}
+use Rattle.epa_polytope.specs.Bounds.{Ample}
+use Rattle.epa_polytope.specs.declared.types.End.{End}
+use Rattle.epa_polytope.specs.declared.types.End.the-variants.{Answers, Nothing, Panics, NoRoom}
+use Rattle.epa_polytope.specs.declared.types.Store.{Store}
 use Rattle.epa.proofs.Ample.{ample-penetration}
 use Rattle.lines.specs.Lines.{outcomeNumber}
-use Rattle.channel.specs.Channel.{distance, separatedOver, Placed}
+use Rattle.channel.specs.Channel.{distance, separated, Placed}
 use Rattle.channel.proofs.Numbers.{numberBy, numbers-agree}
-
--- the stores, with nothing in them yet
-abbrev pub lentOf : State → State
-lentOf s = stateOf (s .verts .cells) (s .faces .pts) (s .faces .adj) (s .faces .nums) (s .faces .dead) (s .edged .faces) (s .edged .corners) (s .queue .faces) (s .queue .keys) noneYet
 
 not-three : (q : GJKResult) (e : End) → ((y : Store) → e ≡ NoRoom y → ⊥) → numberBy q e ≡ 3 → ⊥
 unfolding refusal gjkNumber
@@ -34,14 +31,13 @@ not-three (Proximity d) e h z = omega arith
 not-three (NoIntersection d) e h z = omega arith
 not-three Refused e h z = omega arith
 
-module _ (m : Pose) (g1 g2 : Shape) (dir : Vec3) (maxDist : Float) (exact : Bool) (s : State) (room : Ample (roomsOf s)) where
+module _ (f : Format) (m : Pose) (g1 g2 : Shape) (dir : Vec3) (maxDist : Float) (exact : Bool) (l : Lists) (room : Ample l) where
   -- THE CHANNEL'S NUMBER IS NEVER 3
-  pub ample-number : outcomeNumber (separatedOver m g1 g2 dir maxDist exact s .answer) ≡ 3 → ⊥
-  unfolding roomsOf
+  pub ample-number : outcomeNumber (separated f m g1 g2 dir maxDist exact l .answer) ≡ 3 → ⊥
   ample-number e =
-      not-three (distance m g1 g2 dir maxDist exact .result) _ (ample-penetration m g1 g2 (distance m g1 g2 dir maxDist exact .simplex) (lentOf s) room)
-      (sym (numbers-agree m g1 g2 dir maxDist exact (s .verts .cells) (s .faces .pts) (s .faces .adj) (s .faces .nums) (s .faces .dead) (s .edged .faces) (s .edged .corners) (s .queue .faces) (s .queue .keys)) ∙ e)
+      let g = distance f m g1 g2 dir maxDist exact in
+      not-three (g .result) _ (ample-penetration f m g1 g2 (g .simplex) l room) (sym (numbers-agree f m g1 g2 dir maxDist exact l) ∙ e)
 
   -- so its letter is never R
-  pub ample-separated : Placed (separatedOver m g1 g2 dir maxDist exact s .answer)
+  pub ample-separated : Placed (separated f m g1 g2 dir maxDist exact l .answer)
   ample-separated c e = ample-number (ap outcomeNumber e)

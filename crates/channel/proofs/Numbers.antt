@@ -2,20 +2,20 @@
 -- N for 1 and R for 3. By the cases of each. Assumes nothing.
 use mathlib.Core.Path.{_≡_, refl}
 use mathlib.Core.Bool.{Bool}
-use mathlib.Core.List.{List}
 use Prim.Native.Nat.{ℕ}
-use lib.Ieee.{Float}
+use lib.Ieee.{Float, Format}
 use Rattle.vector.specs.declared.vec3.Vec3.{Vec3}
 use Rattle.vector.specs.declared.pose.Pose.{Pose}
-use Rattle.shape.specs.declared.shape.Shape.{Shape}
+use Rattle.shape.specs.declared.support.Shape.{Shape}
 use Rattle.gjk.specs.declared.rounds.GJKResult.{GJKResult}
 use Rattle.gjk.specs.declared.rounds.GJKResult.the-variants.{Intersection, ClosestPoints, Proximity, NoIntersection, Refused}
 use Rattle.gjk.specs.Gjk.{gjkNumber}
-use Rattle.polytope.specs.Polytope.{refusal}
-use Rattle.polytope.specs.declared.types.End.{End}
-use Rattle.polytope.specs.declared.types.End.the-variants.{Answers, Nothing, Panics, NoRoom}
+use Rattle.epa_polytope.specs.Stores.{Lists}
+use Rattle.epa_polytope.specs.Steps.{refusal}
+use Rattle.epa_polytope.specs.declared.types.End.{End}
+use Rattle.epa_polytope.specs.declared.types.End.the-variants.{Answers, Nothing, Panics, NoRoom}
 use Rattle.epa.specs.declared.types.Answer.{Answer}
-use Rattle.epa.specs.Final.{Final, finalBy, answered, penetration}
+use Rattle.epa.specs.Final.{Final, final, answered, penetration}
 use Rattle.lines.specs.declared.line.Counts.{Counts}
 use Rattle.lines.specs.declared.line.Outcome.{Outcome}
 use Rattle.lines.specs.Lines.{outcomeNumber}
@@ -50,10 +50,10 @@ of-result (Proximity d) x run is kept k = rw (k _) refl
 of-result (NoIntersection d) x run is kept k = rw (k _) refl
 of-result Refused x run is kept k = rw (k _) refl
 
-pub numbers-agree : (m : Pose) (g1 g2 : Shape) (dir : Vec3) (maxDist : Float) (exact : Bool) (v : List Float) (p a : List ℕ) (n : List Float) (d ef ec hf : List ℕ) (hk : List Float)
-    → outcomeNumber (separated m g1 g2 dir maxDist exact v p a n d ef ec hf hk .answer)
-    ≡ numberBy (distance m g1 g2 dir maxDist exact .result) (penetration m g1 g2 (distance m g1 g2 dir maxDist exact .simplex) v p a n d ef ec hf hk .answer .end)
+pub numbers-agree : (f : Format) (m : Pose) (g1 g2 : Shape) (dir : Vec3) (maxDist : Float) (exact : Bool) (l : Lists)
+    → outcomeNumber (separated f m g1 g2 dir maxDist exact l .answer)
+    ≡ numberBy (distance f m g1 g2 dir maxDist exact .result) (penetration f m g1 g2 (distance f m g1 g2 dir maxDist exact .simplex) l .answer .end)
 unfolding separated
-numbers-agree m g1 g2 dir maxDist exact v p a n d ef ec hf hk =
-    let g = distance m g1 g2 dir maxDist exact in
-    of-result (g .result) _ (penetration m g1 g2 (g .simplex) v p a n d ef ec hf hk) refl (λ o. finalBy o v p a n d ef ec hf hk) (λ o. refl)
+numbers-agree f m g1 g2 dir maxDist exact l =
+    let g = distance f m g1 g2 dir maxDist exact in
+    of-result (g .result) _ (penetration f m g1 g2 (g .simplex) l) refl (λ o. final o l) (λ o. refl)

@@ -1,7 +1,8 @@
 // The separation channel: from two shapes and the pose of the second in the frame of the first, how far apart they are by
 // GJK, and where they meet, how deep by the expanding polytope. The answer is what a record's line tells.
 ghost use mathlib.Core.Path.{_≡_};
-ghost use Rattle.epa.specs.Final.{finalBy};
+ghost use lib.Ieee.{binary32};
+ghost use Rattle.epa.specs.Final.{allLent, Ends};
 ghost use Rattle.channel.specs.Channel.{startOf, separated};
 use gjk::GJKResult;
 use lines::Outcome;
@@ -13,7 +14,7 @@ use vector::Vec3;
 
 // A new simplex, reset to the support point of `dir`. It is a simplex, so that the reset is not refused.
 fn start_of(pos12: Pose, g1: Shape, g2: Shape, dir: Vec3) -> VoronoiSimplex
-    ensures { λ r. ⌜ r ≡ startOf pos12 g1 g2 dir ⌝ }
+    ensures { λ r. ⌜ r ≡ startOf binary32 pos12 g1 g2 dir ⌝ }
 {
     let first = shape::from_shapes(pos12, g1, g2, dir);
     let reset = VoronoiSimplex::new().reset(first);
@@ -30,16 +31,14 @@ pub fn separate(
     max_dist: f32,
     exact: bool,
     vertices: &mut [f32],
-    pts: &mut [usize],
-    adj: &mut [usize],
-    nums: &mut [f32],
-    dead: &mut [u8],
-    edge_face: &mut [usize],
-    edge_corner: &mut [usize],
-    heap_face: &mut [usize],
-    heap_key: &mut [f32],
+    ids: &mut [usize],
+    floats: &mut [f32],
+    deleted: &mut [u8],
+    edges: &mut [usize],
+    heap_ids: &mut [usize],
+    heap_keys: &mut [f32],
 ) -> Outcome
-    ensures { λ r. ⌜ finalBy r (now (vertices .exit)) (now (pts .exit)) (now (adj .exit)) (now (nums .exit)) (now (dead .exit)) (now («edge_face» .exit)) (now («edge_corner» .exit)) (now («heap_face» .exit)) (now («heap_key» .exit)) ≡ separated pos12 g1 g2 dir «max_dist» exact (now (vertices .entry)) (now (pts .entry)) (now (adj .entry)) (now (nums .entry)) (now (dead .entry)) (now («edge_face» .entry)) (now («edge_corner» .entry)) (now («heap_face» .entry)) (now («heap_key» .entry)) ⌝ }
+    ensures { λ r. ⌜ Ends (separated binary32 pos12 g1 g2 dir «max_dist» exact) r (λ m. allLent m vertices ids floats deleted edges «heap_ids» «heap_keys») ⌝ }
 {
     let start = start_of(pos12, g1, g2, dir);
     let run = gjk::closest_points(pos12, g1, g2, max_dist, exact, start);
@@ -53,14 +52,12 @@ pub fn separate(
                 g2,
                 left,
                 vertices,
-                pts,
-                adj,
-                nums,
-                dead,
-                edge_face,
-                edge_corner,
-                heap_face,
-                heap_key,
+                ids,
+                floats,
+                deleted,
+                edges,
+                heap_ids,
+                heap_keys,
             );
             outcome_of(answer)
         }

@@ -1,61 +1,72 @@
--- What a whole run answers and leaves in the lent stores, `EPA::closest_points` of src/query/epa/epa3.rs, and document 01's number of each end. Definitions only.
+-- What a whole run answers and leaves in the lists that it is lent: `EPA::closest_points` of src/query/epa/epa3.rs over two shapes of the closed choice. Any format. Definitions only.
 use mathlib.Core.Path.{_≡_}
 use mathlib.Core.List.{List}
 use Prim.Native.Nat.{ℕ}
-use lib.Ieee.{Float, binary32}
+use lib.Ieee.{Float, Format}
 use Rattle.vector.specs.declared.pose.Pose.{Pose}
-use Rattle.shape.specs.declared.shape.Shape.{Shape}
+use Rattle.shape.specs.declared.support.Shape.{Shape}
 use Rattle.shape.specs.Support.{fromShapes}
-use Rattle.simplex.specs.declared.simplex.VoronoiSimplex.{VoronoiSimplex}
-use Rattle.polytope.specs.Polytope.{State, stateOf, Out, onward, ended, Over, liveTo, noneYet, closestPoints}
-use Rattle.polytope.specs.declared.types.End.{End}
-use Rattle.polytope.specs.declared.types.End.the-variants.{NoRoom as noRoom}
-use Rattle.polytope.specs.declared.types.Store.{Store}
+use Rattle.simplex.specs.declared.voronoi_simplex.VoronoiSimplex.{VoronoiSimplex}
+use Rattle.epa_polytope.specs.Stores.{Lists, State, liveTo}
+use Rattle.epa_polytope.specs.Steps.{Out, onward, ended, Over}
+use Rattle.epa_polytope.specs.Run.{closestPoints}
+use Rattle.epa_polytope.specs.Contracts.{Lent, Moment, called, returned, when}
+use Rattle.epa_polytope.specs.declared.types.End.{End}
+use Rattle.epa_polytope.specs.declared.types.End.the-variants.{NoRoom as noRoom}
+use Rattle.epa_polytope.specs.declared.types.Finish.{Finish}
+use Rattle.epa_polytope.specs.declared.types.Store.{Store}
+use Rattle.epa_polytope.specs.declared.types.Tally.{Tally}
 use Rattle.epa.specs.declared.types.Counts.{Counts}
 use Rattle.epa.specs.declared.types.Answer.{Answer}
 
--- an answer, and the content of every store
+-- ---- an answer, and the content of every list
+
 pub record Final (A : Type 0) : Type 0 where
   pub answer : A
-  pub vertices : List Float
-  pub pts : List ℕ
-  pub adj : List ℕ
-  pub nums : List Float
-  pub dead : List ℕ
-  pub edgeFaces : List ℕ
-  pub edgeCorners : List ℕ
-  pub heapFaces : List ℕ
-  pub heapKeys : List Float
+  pub lists : Lists
 
-abbrev pub finalBy : {A : Type 0} → A → List Float → List ℕ → List ℕ → List Float → List ℕ → List ℕ → List ℕ → List ℕ → List Float → Final A
-finalBy x v p a n d ef ec hf hk =
-    record { answer = x; vertices = v; pts = p; adj = a; nums = n; dead = d; edgeFaces = ef; edgeCorners = ec; heapFaces = hf; heapKeys = hk }
+abbrev pub final : {A : Type 0} → A → Lists → Final A
+final x l = record { answer = x; lists = l }
 
--- the same stores, with what is made of the answer
+-- the same lists, with what is made of the answer
 abbrev pub answered : {A B : Type 0} → (A → B) → Final A → Final B
-answered f x = finalBy (f (x .answer)) (x .vertices) (x .pts) (x .adj) (x .nums) (x .dead) (x .edgeFaces) (x .edgeCorners) (x .heapFaces) (x .heapKeys)
+answered f x = final (f (x .answer)) (x .lists)
 
--- the counts of a run: expansions completed, faces made, faces live at the end, and the most edges recorded in one pass
-abbrev pub countsOf : State → Counts
-countsOf s = record { expansions = s .done; «faces_made» = s .faces .count; «faces_live» = liveTo (s .faces .count) (s .faces .dead); «most_edges» = s .most }
+-- ---- a run's answer
+
+-- the counts: expansions completed, faces made, faces live at the end, and the most edges recorded in one pass
+abbrev pub countsAt : List ℕ → Tally → Counts
+countsAt deleted c = record { expansions = c .done; «faces_made» = c .faces; «faces_live» = liveTo (c .faces) deleted; «most_edges» = c .most }
+
+abbrev pub answerAt : List ℕ → Finish → Answer
+answerAt deleted x = record { end = x .end; counts = countsAt deleted (x .tally) }
 
 abbrev pub finalAt : End → State → Final Answer
-finalAt e s =
-    finalBy (record { end = e; counts = countsOf s }) (s .verts .cells) (s .faces .pts) (s .faces .adj) (s .faces .nums) (s .faces .dead) (s .edged .faces) (s .edged .corners) (s .queue .faces) (s .queue .keys)
+finalAt e s = final (record { end = e; counts = countsAt (s .lists .deleted) (s .tally) }) (s .lists)
 
 -- a run only ends
 abbrev pub finalOf : Out Over → Final Answer
 finalOf (ended e s) = finalAt e s
 finalOf (onward x s) = absurd x
 
--- the run of two shapes, the second in a pose, from a simplex, over lent stores whose counts are not read
-abbrev pub penetrationOver : Pose → Shape → Shape → VoronoiSimplex → State → Final Answer
-penetrationOver m g1 g2 x s = finalOf (closestPoints binary32 (fromShapes binary32 m g1 g2) x s)
-
--- over nine lent lists
-abbrev pub penetration : Pose → Shape → Shape → VoronoiSimplex → List Float → List ℕ → List ℕ → List Float → List ℕ → List ℕ → List ℕ → List ℕ → List Float → Final Answer
-penetration m g1 g2 x v p a n d ef ec hf hk = penetrationOver m g1 g2 x (stateOf v p a n d ef ec hf hk noneYet)
+-- THE RUN of two shapes, the second in a pose, from a simplex, over lent lists
+abbrev pub penetration : Format → Pose → Shape → Shape → VoronoiSimplex → Lists → Final Answer
+penetration f m g1 g2 x l = finalOf (closestPoints f (fromShapes f m g1 g2) x l)
 
 -- an answer that is not refused for room
 abbrev pub Placed : Answer → Type 0
 Placed x = (y : Store) → x .end ≡ noRoom y → ⊥
+
+-- ---- the contract of a whole call
+
+-- seven lists
+abbrev pub listsOf : List Float → List ℕ → List Float → List ℕ → List ℕ → List ℕ → List Float → Lists
+listsOf v i x d e hi hk = record { vertices = v; faceIds = i; faceFloats = x; deleted = d; edges = e; heapIds = hi; heapKeys = hk }
+
+-- as they are lent, at a moment
+abbrev pub allLent : Moment → Lent Float → Lent ℕ → Lent Float → Lent ℕ → Lent ℕ → Lent ℕ → Lent Float → Lists
+allLent m v i x d e hi hk = listsOf (when m v) (when m i) (when m x) (when m d) (when m e) (when m hi) (when m hk)
+
+-- what is answered and left is what d makes of the lists
+abbrev pub Ends : {A : Type 0} → (Lists → Final A) → A → (Moment → Lists) → Type 0
+Ends d r slices = final r (slices returned) ≡ d (slices called)

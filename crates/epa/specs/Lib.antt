@@ -1,3 +1,3 @@
--- What the contracts of this crate cite: of the whole run, and of its parts.
+-- What the contracts of this crate cite: of the whole run, and of its loop.
 pub mod Final
-pub mod Contracts
+pub mod Loop

@@ -1,72 +1,92 @@
 // Penetration: from two shapes that meet, the pose of the second in the frame of the first, and the simplex that GJK ended with, a
 // point on each and a normal, by the expanding polytope of epa3.rs. The caller lends the four stores.
 ghost use mathlib.Core.Path.{_≡_};
-ghost use Prim.Native.Nat.{min};
-ghost use Rattle.polytope.specs.Polytope.{roomsBy};
-ghost use Rattle.epa.specs.Contracts.{countsBy, answerAt};
-ghost use Rattle.epa.specs.Final.{finalBy, penetration};
+ghost use lib.Ieee.{binary32};
+ghost use Rattle.epa_polytope.specs.Stores.{noneYet};
+ghost use Rattle.epa_polytope.specs.Run.{epa};
+ghost use Rattle.epa_polytope.specs.Contracts.{Gives, finishOut, lent, singleWorld};
+ghost use Rattle.epa.specs.Final.{allLent, Ends, penetration, answerAt, countsAt};
 
+mod expansions;
 mod types;
 
-use polytope::Finish;
-use polytope::Rooms;
-use polytope::Run;
-use run::run_epa;
+use epa_polytope::Begun;
+use epa_polytope::Finish;
+use epa_polytope::Tally;
+use epa_start::begin;
+use epa_stores::live_to;
+use expansions::expansions;
 use shape::Shape;
 use simplex::VoronoiSimplex;
-use stores::live_to;
 pub use types::Answer;
 pub use types::Counts;
 use vector::Pose;
 
-fn fewer(a: usize, b: usize) -> usize
-    ensures { λ r. ⌜ r ≡ min a b ⌝ }
+// The start, and the expansions, over stores with no entries.
+fn run(
+    vertices: &mut [f32],
+    ids: &mut [usize],
+    floats: &mut [f32],
+    deleted: &mut [u8],
+    edges: &mut [usize],
+    heap_ids: &mut [usize],
+    heap_keys: &mut [f32],
+    pos12: Pose,
+    g1: Shape,
+    g2: Shape,
+    simplex: VoronoiSimplex,
+) -> Finish
+    ensures { λ r. ⌜ Gives finishOut (epa (singleWorld pos12 g1 g2) simplex) noneYet r (λ m. lent m vertices ids floats deleted edges «heap_ids» «heap_keys») ⌝ }
 {
-    if a < b { a } else { b }
-}
-
-// The rooms, by the lengths of the slices: a store lent as several of them is as long as the fewest whole records that one of them holds.
-fn rooms_of(
-    vertices: usize,
-    pts: usize,
-    adj: usize,
-    nums: usize,
-    dead: usize,
-    edge_face: usize,
-    edge_corner: usize,
-    heap_face: usize,
-    heap_key: usize,
-) -> Rooms
-    ensures { λ r. ⌜ r ≡ roomsBy vertices pts adj nums dead «edge_face» «edge_corner» «heap_face» «heap_key» ⌝ }
-{
-    let ids = fewer(pts / 3, adj / 3);
-    let numbers = fewer(nums / 6, dead);
-    Rooms {
-        vertices: vertices / 9,
-        faces: fewer(ids, numbers),
-        edges: fewer(edge_face, edge_corner),
-        heap: fewer(heap_face, heap_key),
+    let begun = begin(
+        vertices,
+        ids,
+        floats,
+        deleted,
+        heap_ids,
+        heap_keys,
+        pos12,
+        g1,
+        g2,
+        simplex,
+    );
+    match begun {
+        Begun::Ended(end, tally) => Finish { end, tally },
+        Begun::Ready(tol, tally) => expansions(
+            vertices,
+            ids,
+            floats,
+            deleted,
+            edges,
+            heap_ids,
+            heap_keys,
+            tally,
+            pos12,
+            g1,
+            g2,
+            tol,
+        ),
     }
 }
 
 // The counts of a run that has ended.
-fn counts_of(dead: &[u8], run: Run) -> Counts
-    ensures { λ r. ⌜ r ≡ countsBy (now (dead .entry)) run ⌝ }
+fn counts_of(deleted: &[u8], tally: Tally) -> Counts
+    ensures { λ r. ⌜ r ≡ countsAt (now (deleted .entry)) tally ⌝ }
 {
     Counts {
-        expansions: run.done,
-        faces_made: run.faces,
-        faces_live: live_to(dead, run.faces),
-        most_edges: run.most,
+        expansions: tally.done,
+        faces_made: tally.faces,
+        faces_live: live_to(deleted, tally.faces),
+        most_edges: tally.most,
     }
 }
 
 // The answer with its counts.
-fn answer_at(dead: &[u8], finish: Finish) -> Answer
-    ensures { λ r. ⌜ r ≡ answerAt (now (dead .entry)) finish ⌝ }
+fn answer_at(deleted: &[u8], finish: Finish) -> Answer
+    ensures { λ r. ⌜ r ≡ answerAt (now (deleted .entry)) finish ⌝ }
 {
     let end = finish.end;
-    let counts = counts_of(dead, finish.run);
+    let counts = counts_of(deleted, finish.tally);
     Answer { end, counts }
 }
 
@@ -77,43 +97,27 @@ pub fn closest_points(
     g2: Shape,
     simplex: VoronoiSimplex,
     vertices: &mut [f32],
-    pts: &mut [usize],
-    adj: &mut [usize],
-    nums: &mut [f32],
-    dead: &mut [u8],
-    edge_face: &mut [usize],
-    edge_corner: &mut [usize],
-    heap_face: &mut [usize],
-    heap_key: &mut [f32],
+    ids: &mut [usize],
+    floats: &mut [f32],
+    deleted: &mut [u8],
+    edges: &mut [usize],
+    heap_ids: &mut [usize],
+    heap_keys: &mut [f32],
 ) -> Answer
-    ensures { λ r. ⌜ finalBy r (now (vertices .exit)) (now (pts .exit)) (now (adj .exit)) (now (nums .exit)) (now (dead .exit)) (now («edge_face» .exit)) (now («edge_corner» .exit)) (now («heap_face» .exit)) (now («heap_key» .exit)) ≡ penetration pos12 g1 g2 simplex (now (vertices .entry)) (now (pts .entry)) (now (adj .entry)) (now (nums .entry)) (now (dead .entry)) (now («edge_face» .entry)) (now («edge_corner» .entry)) (now («heap_face» .entry)) (now («heap_key» .entry)) ⌝ }
+    ensures { λ r. ⌜ Ends (penetration binary32 pos12 g1 g2 simplex) r (λ m. allLent m vertices ids floats deleted edges «heap_ids» «heap_keys») ⌝ }
 {
-    let rooms = rooms_of(
-        vertices.len(),
-        pts.len(),
-        adj.len(),
-        nums.len(),
-        dead.len(),
-        edge_face.len(),
-        edge_corner.len(),
-        heap_face.len(),
-        heap_key.len(),
-    );
-    let finish = run_epa(
+    let finish = run(
         vertices,
-        pts,
-        adj,
-        nums,
-        dead,
-        edge_face,
-        edge_corner,
-        heap_face,
-        heap_key,
+        ids,
+        floats,
+        deleted,
+        edges,
+        heap_ids,
+        heap_keys,
         pos12,
         g1,
         g2,
-        rooms,
         simplex,
     );
-    answer_at(dead, finish)
+    answer_at(deleted, finish)
 }

@@ -3,9 +3,15 @@ use mathlib.Core.Path.{_≡_, refl, sym, ap, subst, _∙_}
 use mathlib.Core.Bool.{Bool, true, false}
 use Rattle.epa_polytope.specs.declared.types.Step.{Step}
 use Rattle.epa_polytope.specs.declared.types.Step.the-variants.{Onward, Ended}
+use Rattle.epa_polytope.specs.declared.types.Begun.{Begun}
+use Rattle.epa_polytope.specs.declared.types.Begun.the-variants as Begun
+use Rattle.epa_polytope.specs.declared.types.Visited.{Visited}
+use Rattle.epa_polytope.specs.declared.types.Visited.the-variants as Visited
+use lib.Ieee.{Float}
+use Rattle.epa_polytope.specs.Run.{Best}
 use Rattle.epa_polytope.specs.Stores.{Lists, Tally, State, stateOf}
 use Rattle.epa_polytope.specs.Steps.{End, Out, onward, ended, next, Act, Nil, _>>=_, _>>_, look, stopIf, doIf, branch}
-use Rattle.epa_polytope.specs.Contracts.{Does, stepOut}
+use Rattle.epa_polytope.specs.Contracts.{Does, stepOut, beginOut, visitOut}
 use Rattle.epa_polytope.proofs.Moves.{left}
 
 -- ---- one answer
@@ -37,6 +43,36 @@ steps-readable = record { read = stepIn; answered = answer-read; kept = lists-ke
     lists-kept : (l : Lists) (r : Step) → left (stepOut l r) .lists ≡ l
     lists-kept l (Onward c) = refl
     lists-kept l (Ended e c) = refl
+
+abbrev beginIn : Out Float → Begun
+beginIn (onward tol s) = Begun.Ready tol (s .tally)
+beginIn (ended e s) = Begun.Ended e (s .tally)
+
+pub begins-readable : Readable beginOut
+begins-readable = record { read = beginIn; answered = answer-read; kept = lists-kept }
+  where
+    answer-read : (l : Lists) (r : Begun) → beginIn (beginOut l r) ≡ r
+    answer-read l (Begun.Ready tol c) = refl
+    answer-read l (Begun.Ended e c) = refl
+
+    lists-kept : (l : Lists) (r : Begun) → left (beginOut l r) .lists ≡ l
+    lists-kept l (Begun.Ready tol c) = refl
+    lists-kept l (Begun.Ended e c) = refl
+
+abbrev visitIn : Out Best → Visited
+visitIn (onward b s) = Visited.Next b (s .tally)
+visitIn (ended e s) = Visited.Ended e (s .tally)
+
+pub visits-readable : Readable visitOut
+visits-readable = record { read = visitIn; answered = answer-read; kept = lists-kept }
+  where
+    answer-read : (l : Lists) (r : Visited) → visitIn (visitOut l r) ≡ r
+    answer-read l (Visited.Next b c) = refl
+    answer-read l (Visited.Ended e c) = refl
+
+    lists-kept : (l : Lists) (r : Visited) → left (visitOut l r) .lists ≡ l
+    lists-kept l (Visited.Next b c) = refl
+    lists-kept l (Visited.Ended e c) = refl
 
 -- ---- steps in sequence
 

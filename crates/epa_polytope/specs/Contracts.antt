@@ -5,15 +5,30 @@ use mathlib.Core.List.{List}
 use denote.Ref.{RefT}
 use denote.Triple.Both.{Both}
 use Prim.Native.Nat.{ℕ}
+use Rattle.vector.specs.declared.pose.Pose.{Pose}
+use Rattle.shape.specs.declared.support.Shape.{Shape}
+use Rattle.heap.specs.Heap.{Entry, entry}
 use lib.Ieee.{Float, binary32}
 use Rattle.epa_polytope.specs.declared.types.Step.{Step}
 use Rattle.epa_polytope.specs.declared.types.Step.the-variants.{Onward, Ended}
+use Rattle.epa_polytope.specs.declared.types.Begun.{Begun}
+use Rattle.epa_polytope.specs.declared.types.Begun.the-variants as Begun
+use Rattle.epa_polytope.specs.declared.types.Visited.{Visited}
+use Rattle.epa_polytope.specs.declared.types.Visited.the-variants as Visited
+use Rattle.epa_polytope.specs.declared.types.Finish.{Finish}
+use Rattle.epa_polytope.specs.declared.types.FaceId.{FaceId}
 use Rattle.epa_polytope.specs.Stores.{Lists, Tally, stateOf, lend}
-use Rattle.epa_polytope.specs.Steps.{Numbers, numbersOf, Out, onward, ended, Act, Nil}
+use Rattle.epa_polytope.specs.Steps.{Numbers, numbersOf, Out, onward, ended, Act, Nil, Over}
+use Rattle.epa_polytope.specs.Start.{World, worldOf}
+use Rattle.epa_polytope.specs.Run.{Best}
 
 -- the numbers of the code
 abbrev pub single : Numbers
 single = numbersOf binary32
+
+-- and two shapes over them
+abbrev pub singleWorld : Pose → Shape → Shape → World
+singleWorld = worldOf binary32
 
 -- ---- what a function does
 
@@ -25,6 +40,24 @@ pub record Does {A R : Type 0} (out : Lists → R → Out A) (a : Act A) (l : Li
 abbrev pub stepOut : Lists → Step → Out Nil
 stepOut l (Onward c) = onward tt (stateOf l c)
 stepOut l (Ended e c) = ended e (stateOf l c)
+
+-- of the start's, which goes on with the tolerance of the keys
+abbrev pub beginOut : Lists → Begun → Out Float
+beginOut l (Begun.Ready tol c) = onward tol (stateOf l c)
+beginOut l (Begun.Ended e c) = ended e (stateOf l c)
+
+-- of an expansion's, which goes on with what is carried to the next
+abbrev pub visitOut : Lists → Visited → Out Best
+visitOut l (Visited.Next b c) = onward b (stateOf l c)
+visitOut l (Visited.Ended e c) = ended e (stateOf l c)
+
+-- of a whole run's, which only ends
+abbrev pub finishOut : Lists → Finish → Out Over
+finishOut l x = ended (x .end) (stateOf l (x .tally))
+
+-- a face with its key, as the heap has it
+abbrev pub entryOf : FaceId → Entry
+entryOf e = entry (e .id) (e .«neg_dist»)
 
 -- ---- the slices
 

@@ -9,11 +9,14 @@ use Rattle.number.specs.Constants.{epsTol}
 use Rattle.number.specs.Small.{absolute, larger}
 use Rattle.vector.specs.declared.vec3.Vec3.{Vec3}
 use Rattle.vector.specs.Vector.{vec3, zeroF, oneF, zeroV, xV, yV, zV, negV, subV, dotV, crossV, lengthSquaredV, lengthV, normalizeV, normalizeOrZeroV, equalV, _⊗_}
+use Rattle.vector.specs.declared.pose.Pose.{Pose}
 use Rattle.shape.specs.declared.vertex.Vertex.{Vertex}
-pub use Rattle.simplex.specs.declared.simplex.VoronoiSimplex.{VoronoiSimplex}
+use Rattle.shape.specs.declared.support.Shape.{Shape}
+use Rattle.shape.specs.Support.{fromShapes}
+pub use Rattle.simplex.specs.declared.voronoi_simplex.VoronoiSimplex.{VoronoiSimplex}
 use Rattle.simplex.specs.Simplex.{isSimplex, vertexAt as cornerOf}
 use Rattle.epa_polytope.specs.Stores.{Made, stateOf, withVertices, vertexAt, putVertex, pointAt, normalAt}
-use Rattle.epa_polytope.specs.Steps.{Numbers, three, Act, Nil, _>>=_, _>>_, pure, stop, look, put, ok, stopIf, doIf, branch, answers, nothing, panics}
+use Rattle.epa_polytope.specs.Steps.{Numbers, numbersOf, three, Act, Nil, _>>=_, _>>_, pure, stop, look, put, ok, stopIf, doIf, branch, answers, nothing, panics}
 use Rattle.epa_polytope.specs.Steps.{singlePoint, keyAtStart, noneHolds, notASimplex, noThirdVertex, pushVertex, pushFace, enqueue, queueFace, madeOf}
 
 -- the numbers, and the two shapes, by the vertex that they answer to a direction
@@ -23,6 +26,10 @@ pub record World : Type 0 where
 
 abbrev pub formatOf : World → Format
 formatOf w = w .numbers .format
+
+-- two shapes of the closed choice, the second in a pose, with the Rust's own face maker
+abbrev pub worldOf : Format → Pose → Shape → Shape → World
+worldOf f m g1 g2 = record { numbers = numbersOf f; supp = fromShapes f m g1 g2 }
 
 -- ---- the vertices
 

@@ -2,7 +2,7 @@
 -- A step takes the state, and goes on with a value and the state that it leaves, or ends the run. In a `do` block each line is a step, in order: `s ← look` names the state as it is at that line,
 -- `put t` makes t the state, `stopIf b e` ends the run with e if b holds, and no later line is taken; `doIf` is if, `branch` if-else, `>>` then, and `pure x` hands x on.
 use Prim.Native.Nat.{ℕ, _+_}
-use mathlib.Core.Bool.{Bool, true, false}
+use mathlib.Core.Bool.{Bool, true, false, cond}
 use lib.ListN.{set}
 use lib.Dec.{leb}
 use lib.Ieee.{Float, Format, lt}
@@ -14,6 +14,8 @@ use Rattle.epa_polytope.specs.Face.{faceNew}
 use Rattle.epa_polytope.specs.Stores.{Lists, State, stateOf, withVertices, withFaceIds, withFaceFloats, withDeleted, withHeap, vertexCount, faceCount, heapCount}
 use Rattle.epa_polytope.specs.Stores.{Made, Three, theVertices, theFaces, theHeap}
 use Rattle.epa_polytope.specs.Stores.{roomFor, vertexAt, putVertex, putMade, putFace, normalOf, weightsOf, cornerIn, pointAt, heapOf}
+use Rattle.epa_polytope.specs.declared.types.MaybeFaceId.{MaybeFaceId}
+use Rattle.epa_polytope.specs.declared.types.MaybeFaceId.the-variants as MaybeFaceId
 pub use Rattle.epa_polytope.specs.declared.types.Found.{Found}
 pub use Rattle.epa_polytope.specs.declared.types.Found.the-variants.{SinglePoint as singlePoint, Converged as converged, Stuck as stuck, NewFaceNearer as newFaceNearer}
 pub use Rattle.epa_polytope.specs.declared.types.Found.the-variants.{EnoughExpansions as enoughExpansions, HeapEmpty as heapEmpty}
@@ -129,6 +131,10 @@ enqueue id negDist = do
   stopIf (leb (roomFor theHeap (s .lists)) (s .tally .heap)) (noRoom theHeap)
   let h = pushed (heapOf s) (entry id negDist)
   put (stateOf (withHeap (h .faces) (h .keys) (s .lists)) (heapCount (h .count) (s .tally)))
+
+-- `FaceId::new`: none, for a key above the tolerance
+unfoldable pub faceIdNew : ℕ → Float → Float → MaybeFaceId
+faceIdNew id negDist tol = cond (lt tol negDist) MaybeFaceId.None (MaybeFaceId.Some (record { id = id; «neg_dist» = negDist }))
 
 -- `self.heap.push(FaceId::new(id, neg_dist, tol)?)`: a key above the tolerance is refused
 unfoldable pub queueFace : Lost → Float → ℕ → Float → Act Nil

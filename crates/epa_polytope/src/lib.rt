@@ -2,17 +2,21 @@
 // files that follow the Rust (Stores, Steps, Silhouette, Start, Expansion, Run), and what holds of it, demand 3 above all, in proofs/.
 mod types;
 
+pub use types::Begun;
 pub use types::Best;
 pub use types::End;
 pub use types::Expansion;
+pub use types::FaceId;
 pub use types::Finish;
 pub use types::Found;
 pub use types::Lost;
 pub use types::Made;
+pub use types::MaybeFaceId;
 pub use types::Question;
 pub use types::Site;
 pub use types::Step;
 pub use types::Store;
 pub use types::Tally;
 pub use types::Three;
+pub use types::Visited;
 pub use types::WalkAnswer;

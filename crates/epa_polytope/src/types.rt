@@ -102,10 +102,34 @@ pub enum Step {
     Ended(End, Tally),
 }
 
+// After the start: the run has its first faces, and goes on with the tolerance of its keys; or it has ended.
+pub enum Begun {
+    Ready(f32, Tally),
+    Ended(End, Tally),
+}
+
+// After an expansion: the run goes on with what is carried to the next one, or has ended.
+pub enum Visited {
+    Next(Best, Tally),
+    Ended(End, Tally),
+}
+
 // How a run ended, and how far it came.
 pub struct Finish {
     pub end: End,
     pub tally: Tally,
+}
+
+// A face and its key, the negated distance (`FaceId` of epa3.rs).
+pub struct FaceId {
+    pub id: usize,
+    pub neg_dist: f32,
+}
+
+// The Rust's `Option<FaceId>`, of a key that may be refused and of a heap that may be empty.
+pub enum MaybeFaceId {
+    Some(FaceId),
+    None,
 }
 
 // What is known of an expansion under way: the face that is expanded, its distance, the new vertex, and the

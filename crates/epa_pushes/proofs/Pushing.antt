@@ -7,7 +7,7 @@ use lib.Seq.{sets}
 use Prim.Native.Nat.{ℕ, suc, _+_, _/_, _<_, _≤_}
 use native.Mathlib.Omega.{arith}
 use lib.Dec.{ltb}
-use lib.Ieee.{Float}
+use lib.Ieee.{Float, lt}
 use borrow.Author.Tests.{lt-leb, le-leb, ltb-true, ltb-false}
 use Rattle.heap.specs.Heap.{Heap, heap, entry, pushed}
 use Rattle.heap.specs.Calls.{After, after, leaves, pushOf}
@@ -17,13 +17,19 @@ use Rattle.epa_polytope.specs.declared.types.Store.the-variants.{Vertices as Ve
 use Rattle.epa_polytope.specs.declared.types.Three.{Three}
 use Rattle.epa_polytope.specs.declared.types.Made.{Made}
 use Rattle.shape.specs.declared.vertex.Vertex.{Vertex}
-use Rattle.epa_polytope.specs.declared.types.End.the-variants.{NoRoom}
+use Rattle.epa_polytope.specs.declared.types.End.the-variants.{Nothing, NoRoom}
+use Rattle.epa_polytope.specs.declared.types.FaceId.{FaceId}
+use Rattle.epa_polytope.specs.declared.types.Lost.{Lost}
+use Rattle.epa_polytope.specs.declared.types.MaybeFaceId.{MaybeFaceId}
+use Rattle.epa_polytope.specs.declared.types.MaybeFaceId.the-variants as MaybeFaceId
+use Rattle.epa_polytope.specs.declared.types.Step.{Step}
 use Rattle.epa_polytope.specs.declared.types.Step.the-variants.{Onward, Ended}
 use Rattle.epa_polytope.specs.declared.types.Tally.{Tally}
 use Rattle.epa_polytope.specs.Stores.{Lists, stateOf, withVertices, withFaceIds, withFaceFloats, withDeleted, withHeap, vertexCount, faceCount, heapCount, faceRoom, heapRoom, putVertex, putFace, putMade}
-use Rattle.epa_polytope.specs.Steps.{onward, pushVertex, pushFace, enqueue, stopIf, put, look, _>>=_, _>>_}
+use Rattle.epa_polytope.specs.Steps.{onward, pushVertex, pushFace, enqueue, faceIdNew, queueFace, stopIf, put, look, _>>=_, _>>_}
 use Rattle.epa_polytope.specs.Contracts.{Does, stepOut}
 use Rattle.epa_polytope.proofs.Ways.{pushed-count}
+use Rattle.epa_polytope.proofs.Doing.{stopped, not-stopped}
 
 -- ---- a vertex
 
@@ -68,6 +74,35 @@ module _ (corners neighbours : Three) (m : Made) (l : Lists) (c : Tally) where
       → Does stepOut (pushFace corners neighbours m) l c (withFaceIds ids (withFaceFloats floats (withDeleted deleted l))) (Onward (faceCount (c .faces + 1) c))
   unfolding pushFace _>>=_ _>>_ look stopIf put
   face-written is h e1 e2 e3 = record { same = rw (← is, lt-leb _ _ h, e1, e2, e3) }
+
+-- ---- a key
+
+-- what `FaceId::new` says of it
+pub not-accepted : (i : ℕ) (key tol : Float) → MaybeFaceId.None ≡ faceIdNew i key tol → lt tol key ≡ true
+unfolding faceIdNew
+not-accepted i key tol e = by (lt tol key) e
+  where
+    by : (b : Bool) → MaybeFaceId.None ≡ cond b MaybeFaceId.None (MaybeFaceId.Some (record { id = i; «neg_dist» = key })) → b ≡ true
+    by true q = refl
+    by false q = let z : _≡_ {A = ℕ} 0 1 = cc in let o : ⊥ = omega arith in absurd o
+
+pub accepted : (i : ℕ) (key tol : Float) (x : FaceId) → MaybeFaceId.Some x ≡ faceIdNew i key tol → (lt tol key ≡ false) × (x ≡ record { id = i; «neg_dist» = key })
+unfolding faceIdNew
+accepted i key tol x e = by (lt tol key) e
+  where
+    by : (b : Bool) → MaybeFaceId.Some x ≡ cond b MaybeFaceId.None (MaybeFaceId.Some (record { id = i; «neg_dist» = key })) → (b ≡ false) × (x ≡ record { id = i; «neg_dist» = key })
+    by true q = let z : _≡_ {A = ℕ} 0 1 = cc in let o : ⊥ = omega arith in absurd o
+    by false q = (refl, cc)
+
+-- `FaceId::new` answers o
+module _ (why : Lost) (i : ℕ) (key tol : Float) {o : MaybeFaceId} (is : o ≡ faceIdNew i key tol) {l : Lists} {c : Tally} where
+  pub key-refused : o ≡ MaybeFaceId.None → Does stepOut (queueFace why tol i key) l c l (Ended (Nothing why) c)
+  unfolding queueFace
+  key-refused t = stopped _ _ refl (not-accepted i key tol (sym t ∙ is))
+
+  pub key-accepted : {x : FaceId} {l' : Lists} {r : Step} → o ≡ MaybeFaceId.Some x → Does stepOut (enqueue (x .id) (x .«neg_dist»)) l c l' r → Does stepOut (queueFace why tol i key) l c l' r
+  unfolding queueFace
+  key-accepted {x} t does = let ok = accepted i key tol x (sym t ∙ is) in not-stopped _ (ok .0) (rw (ok .1) at does)
 
 -- ---- an entry of the heap
 

@@ -3,11 +3,13 @@
 ghost use mathlib.Core.Path.{_≡_};
 ghost use Prim.Native.Nat.{min};
 ghost use Rattle.epa_polytope.specs.Stores.{withVertices, withFaceIds, withFaceFloats, withDeleted, withHeap, faceRoom, putFace};
-ghost use Rattle.epa_polytope.specs.Steps.{pushVertex, pushFace, enqueue, queueFace};
+ghost use Rattle.epa_polytope.specs.Steps.{pushVertex, pushFace, enqueue, faceIdNew, queueFace};
 ghost use Rattle.epa_polytope.specs.Contracts.{Reads, Leaves, when};
 use epa_polytope::End;
+use epa_polytope::FaceId;
 use epa_polytope::Lost;
 use epa_polytope::Made;
+use epa_polytope::MaybeFaceId;
 use epa_polytope::Step;
 use epa_polytope::Store;
 use epa_polytope::Tally;
@@ -101,7 +103,17 @@ pub fn enqueue(
     Step::Onward(next)
 }
 
-// `self.heap.push(FaceId::new(id, neg_dist, tol)?)`: a key above the tolerance is refused. A NaN is not above it.
+// `FaceId::new`: a key above the tolerance is refused. A NaN is not above it.
+fn face_id_new(id: usize, neg_dist: f32, tol: f32) -> MaybeFaceId
+    ensures { λ r. ⌜ r ≡ faceIdNew id «neg_dist» tol ⌝ }
+{
+    if neg_dist > tol {
+        return MaybeFaceId::None;
+    }
+    MaybeFaceId::Some(FaceId { id, neg_dist })
+}
+
+// `self.heap.push(FaceId::new(id, neg_dist, tol)?)`.
 pub fn queue_face(
     heap_ids: &mut [usize],
     heap_keys: &mut [f32],
@@ -113,8 +125,8 @@ pub fn queue_face(
 ) -> Step
     ensures { λ r. ⌜ Leaves (queueFace why tol id «neg_dist») tally r (λ m k. withHeap (when m «heap_ids») (when m «heap_keys») k) ⌝ }
 {
-    if neg_dist > tol {
+    let MaybeFaceId::Some(face) = face_id_new(id, neg_dist, tol) else {
         return Step::Ended(End::Nothing(why), tally);
-    }
-    enqueue(heap_ids, heap_keys, tally, id, neg_dist)
+    };
+    enqueue(heap_ids, heap_keys, tally, face.id, face.neg_dist)
 }

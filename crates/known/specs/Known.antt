@@ -15,13 +15,15 @@ use Rattle.tetrahedron.specs.declared.TetrahedronProjection.{TetrahedronProject
 use Rattle.tetrahedron.specs.declared.TetrahedronProjection.the-variants.{At}
 use Rattle.tetrahedron.specs.declared.TetrahedronPointLocation.the-variants.{OnVertex}
 use Rattle.tetrahedron.specs.Tetrahedron.{projectTetrahedron}
-use Rattle.simplex.specs.declared.simplex.VoronoiSimplex.{VoronoiSimplex}
+use Rattle.simplex.specs.declared.voronoi_simplex.VoronoiSimplex.{VoronoiSimplex}
 use Rattle.simplex.specs.Simplex.{simplexOf}
 use Rattle.reduction.specs.declared.location.Location.the-variants.{OnFace}
 use Rattle.reduction.specs.Reduction.{applyLocation}
 use Rattle.heap.specs.Order.{orderOf}
-use Rattle.pushes.specs.declared.types.MaybeFaceId.the-variants.{Some, None}
-use Rattle.pushes.specs.Contracts.{faceIdNew}
+use Rattle.epa_polytope.specs.declared.types.Lost.{Lost}
+use Rattle.epa_polytope.specs.declared.types.End.the-variants.{Nothing}
+use Rattle.epa_polytope.specs.Stores.{State}
+use Rattle.epa_polytope.specs.Steps.{ended, enqueue, queueFace}
 use Rattle.casefile.specs.declared.numbers.NumberAnswer.the-variants.{Read, Bad}
 use Rattle.casefile.specs.Numbers.{encode, decodeNumber}
 
@@ -31,8 +33,8 @@ pub data Case : Type 0 where
   equalKeys : ℕ → List ℕ → Case  -- so many equal keys, pushed as faces 0, 1, .., and the order in which they pop
   projects : Tetrahedron → TetrahedronProjection → Case  -- the origin on a tetrahedron
   faceAcd : List Float → List Float → Case  -- the weights of face acd, and those that the reduction leaves with a, d, c
-  accepts : ℕ → ℕ → Case  -- the bits of a tolerance, and of a key that any face is accepted with
-  refuses : ℕ → ℕ → Case  -- the bits of a tolerance, and of a key that any face is refused with
+  accepts : ℕ → ℕ → Case  -- the bits of a tolerance, and of a key that any face is queued with
+  refuses : ℕ → ℕ → Case  -- the bits of a tolerance, and of a key that ends the run at once, whatever the face
   travels : Float → List ℕ → Case  -- a number, and its bytes in a case file
   malformed : List ℕ → Case  -- bytes that begin no number
 
@@ -58,8 +60,8 @@ Holds (equalKeys n order) = orderOf (replicate n oneF) ≡ order
 Holds (projects t p) = projectTetrahedron binary32 t zeroV ≡ p
 Holds (faceAcd given left) =
     (take 3 (reducedTo given .vertices) ≡ cornerAt 0 ∷ cornerAt 3 ∷ cornerAt 2 ∷ []) × (reducedTo given .proj ≡ left)
-Holds (accepts tol key) = (i : ℕ) → faceIdNew i (ofBits binary32 key) (ofBits binary32 tol) ≡ Some (record { id = i; «neg_dist» = ofBits binary32 key })
-Holds (refuses tol key) = (i : ℕ) → faceIdNew i (ofBits binary32 key) (ofBits binary32 tol) ≡ None
+Holds (accepts tol key) = (why : Lost) (i : ℕ) (s : State) → queueFace why (ofBits binary32 tol) i (ofBits binary32 key) s ≡ enqueue i (ofBits binary32 key) s
+Holds (refuses tol key) = (why : Lost) (i : ℕ) (s : State) → queueFace why (ofBits binary32 tol) i (ofBits binary32 key) s ≡ ended (Nothing why) s
 Holds (travels x bytes) = (encode (toBits binary32 x) ≡ bytes) × (decodeNumber bytes 0 ≡ Read (toBits binary32 x) (length bytes))
 Holds (malformed bytes) = decodeNumber bytes 0 ≡ Bad
 

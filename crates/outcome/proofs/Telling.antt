@@ -1,6 +1,6 @@
 -- The outcome of a run, from its end and its counts. Assumes nothing.
 use mathlib.Core.Path.{_≡_, sym, ap, _∙_}
-use Rattle.polytope.specs.declared.types.End.{End}
+use Rattle.epa_polytope.specs.declared.types.End.{End}
 use Rattle.epa.specs.declared.types.Answer.{Answer}
 use Rattle.lines.specs.declared.line.Counts.{Counts}
 use Rattle.outcome.specs.Outcome.{countsOf, endedAs, outcomeOf}

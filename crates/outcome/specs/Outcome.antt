@@ -1,6 +1,6 @@
 -- A run of the polytope, told as the outcome of a record (document 01, "What the channel computes"). Definitions only.
-use Rattle.polytope.specs.declared.types.End.{End}
-use Rattle.polytope.specs.declared.types.End.the-variants as End
+use Rattle.epa_polytope.specs.declared.types.End.{End}
+use Rattle.epa_polytope.specs.declared.types.End.the-variants as End
 use Rattle.epa.specs.declared.types.Answer.{Answer}
 use Rattle.epa.specs.declared.types.Counts as Epa
 use Rattle.lines.specs.declared.line.Counts.{Counts}

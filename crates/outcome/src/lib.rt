@@ -1,8 +1,8 @@
 // A run of the polytope, told as the outcome of a record: letters P, N, X and R, with the run's counts.
 ghost use mathlib.Core.Path.{_≡_};
 ghost use Rattle.outcome.specs.Outcome.{countsOf, outcomeOf};
+use epa_polytope::End;
 use lines::Outcome;
-use polytope::End;
 
 fn counts_of(c: epa::Counts) -> lines::Counts
     ensures { λ r. ⌜ r ≡ countsOf c ⌝ }

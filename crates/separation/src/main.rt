@@ -51,14 +51,12 @@ fn main() {
     let mut input = io::large_buffer();
     let mut out = io::large_buffer();
     let mut vertices = [0.0f32; 945];
-    let mut pts = [0usize; 3000];
-    let mut adj = [0usize; 3000];
-    let mut nums = [0.0f32; 6000];
-    let mut dead = [0u8; 1000];
-    let mut edge_face = [0usize; 206];
-    let mut edge_corner = [0usize; 206];
-    let mut heap_face = [0usize; 1000];
-    let mut heap_key = [0.0f32; 1000];
+    let mut ids = [0usize; 6000];
+    let mut floats = [0.0f32; 6000];
+    let mut deleted = [0u8; 1000];
+    let mut edges = [0usize; 412];
+    let mut heap_ids = [0usize; 1000];
+    let mut heap_keys = [0.0f32; 1000];
     let mut state = begun(&mut out);
     let mut n: u64 = 0;
     while n < MOST_TURNS {
@@ -68,14 +66,12 @@ fn main() {
             &mut input,
             &mut out,
             &mut vertices,
-            &mut pts,
-            &mut adj,
-            &mut nums,
-            &mut dead,
-            &mut edge_face,
-            &mut edge_corner,
-            &mut heap_face,
-            &mut heap_key,
+            &mut ids,
+            &mut floats,
+            &mut deleted,
+            &mut edges,
+            &mut heap_ids,
+            &mut heap_keys,
         );
         if !is_open(next) {
             finish(next, n, &mut out);
@@ -263,14 +259,12 @@ fn turn(
     input: &mut [u8],
     out: &mut [u8],
     vertices: &mut [f32],
-    pts: &mut [usize],
-    adj: &mut [usize],
-    nums: &mut [f32],
-    dead: &mut [u8],
-    edge_face: &mut [usize],
-    edge_corner: &mut [usize],
-    heap_face: &mut [usize],
-    heap_key: &mut [f32],
+    ids: &mut [usize],
+    floats: &mut [f32],
+    deleted: &mut [u8],
+    edges: &mut [usize],
+    heap_ids: &mut [usize],
+    heap_keys: &mut [f32],
 ) -> State {
     let State::Open(given, at) = state else {
         return State::Failed(0);
@@ -299,14 +293,12 @@ fn turn(
         out,
         place,
         vertices,
-        pts,
-        adj,
-        nums,
-        dead,
-        edge_face,
-        edge_corner,
-        heap_face,
-        heap_key,
+        ids,
+        floats,
+        deleted,
+        edges,
+        heap_ids,
+        heap_keys,
     );
     after(answer, window, place)
 }

@@ -4,7 +4,7 @@ use mathlib.Core.Path.{_≡_, refl, sym, ap, _∙_}
 use mathlib.Core.List.{List}
 use Prim.Native.Nat.{ℕ, _<_, _≤_}
 use lib.ListN.{length}
-use lib.Ieee.{Float}
+use lib.Ieee.{Format}
 use borrow.Author.Tests.{lt-ltb, le-ltb}
 use Rattle.casefile.specs.declared.records.Case.{Case}
 use Rattle.casefile.specs.declared.records.CaseAnswer.{CaseAnswer}
@@ -13,53 +13,41 @@ use Rattle.lines.specs.declared.line.Outcome.{Outcome}
 use Rattle.lines.specs.declared.text.Placed.{Placed}
 use Rattle.lines.specs.Text.{after, placeOf}
 use Rattle.lines.specs.Lines.{lineOf, badLine}
-use Rattle.epa.specs.Final.{finalBy, answered}
+use Rattle.epa_polytope.specs.Stores.{Lists}
+use Rattle.epa.specs.Final.{final, answered}
 use Rattle.window.specs.declared.Turn.{Turn}
 use Rattle.window.specs.declared.Turn.the-variants as Turn
 use Rattle.window.specs.Window.{offsetOf, lineTurn, badTurn}
 use Rattle.stream.specs.Stream.{Told, told, caseOutcome, lineTold, badTold, turnBy, mostRecords, turnOf}
 
-module _ (s : List ℕ) (at base number : ℕ) (o : List ℕ) (place : ℕ) (v : List Float) (p a : List ℕ) (n : List Float) (d ef ec hf : List ℕ) (hk : List Float) where
-  pub all-read : mostRecords < number → finalBy (told Turn.AllRead o) v p a n d ef ec hf hk ≡ turnOf s at base number o place v p a n d ef ec hf hk
+module _ (f : Format) (s : List ℕ) (at base number : ℕ) (o : List ℕ) (place : ℕ) (l : Lists) where
+  pub all-read : mostRecords < number → final (told Turn.AllRead o) l ≡ turnOf f s at base number o place l
   unfolding turnOf
   all-read h = rw (lt-ltb mostRecords number h) refl
 
   -- up to the last record, a turn is what reading finds
-  pub up-to-the-last : number ≤ mostRecords → turnOf s at base number o place v p a n d ef ec hf hk ≡ turnBy (readCase s at) s base number o place v p a n d ef ec hf hk
+  pub up-to-the-last : number ≤ mostRecords → turnOf f s at base number o place l ≡ turnBy f (readCase f s at) s base number o place l
   unfolding turnOf
   up-to-the-last h = rw (le-ltb mostRecords number h) refl
 
-module _ (s : List ℕ) (at base number : ℕ) (o : List ℕ) (place : ℕ) (v : List Float) (p a : List ℕ) (n : List Float) (d ef ec hf : List ℕ) (hk : List Float) (within : number ≤ mostRecords) (found : CaseAnswer) (read : found ≡ readCase s at) where
-  by-found : (f : CaseAnswer) → found ≡ f → turnBy f s base number o place v p a n d ef ec hf hk ≡ turnOf s at base number o place v p a n d ef ec hf hk
-  by-found f is =
-      ap (λ (t : CaseAnswer). turnBy t s base number o place v p a n d ef ec hf hk) (sym is ∙ read) ∙ sym (up-to-the-last s at base number o place v p a n d ef ec hf hk within)
+  module _ (within : number ≤ mostRecords) {found : CaseAnswer} (read : found ≡ readCase f s at) where
+    by-found : (x : CaseAnswer) → found ≡ x → turnBy f x s base number o place l ≡ turnOf f s at base number o place l
+    by-found x is = ap (λ (t : CaseAnswer). turnBy f t s base number o place l) (sym is ∙ read) ∙ sym (up-to-the-last within)
 
-  pub whole : (c : Case) (next : ℕ) → found ≡ CaseAnswer.Whole c next
-      → (v' : List Float) (p' a' : List ℕ) (n' : List Float) (d' ef' ec' hf' : List ℕ) (hk' : List Float) (x : Outcome)
-      → finalBy x v' p' a' n' d' ef' ec' hf' hk' ≡ caseOutcome c v p a n d ef ec hf hk
-      → (o' : List ℕ) (w : Placed) → after o' w ≡ placeOf o place (lineOf number x) → (r : Turn) → r ≡ lineTurn next w
-      → finalBy (told r o') v' p' a' n' d' ef' ec' hf' hk' ≡ turnOf s at base number o place v p a n d ef ec hf hk
-  whole c next is v' p' a' n' d' ef' ec' hf' hk' x e o' w written r turned =
-      ap (λ (t : Told). finalBy t v' p' a' n' d' ef' ec' hf' hk') (ap (λ (t : Turn). told t o') turned ∙ ap (lineTold next) written)
-      ∙ ap (answered (λ (y : Outcome). lineTold next (placeOf o place (lineOf number y)))) e
-      ∙ by-found (CaseAnswer.Whole c next) is
+    pub whole : {c : Case} {next : ℕ} → found ≡ CaseAnswer.Whole c next → {l1 : Lists} {x : Outcome} → final x l1 ≡ caseOutcome f c l
+        → {o1 : List ℕ} {w : Placed} → after o1 w ≡ placeOf o place (lineOf f number x) → {r : Turn} → r ≡ lineTurn next w → final (told r o1) l1 ≡ turnOf f s at base number o place l
+    whole {c} {next} is {l1} e {o1} written turned =
+        ap (λ (t : Told). final t l1) (ap (λ (t : Turn). told t o1) turned ∙ ap (lineTold next) written)
+        ∙ ap (answered (λ (y : Outcome). lineTold next (placeOf o place (lineOf f number y)))) e
+        ∙ by-found (CaseAnswer.Whole c next) is
 
-  bad : (offset : ℕ) (o' : List ℕ) (w : Placed) → after o' w ≡ placeOf o place (badLine offset) → (r : Turn) → r ≡ badTurn w
-      → finalBy (told r o') v p a n d ef ec hf hk ≡ finalBy (badTold (placeOf o place (badLine offset))) v p a n d ef ec hf hk
-  bad offset o' w written r turned = ap (λ (t : Told). finalBy t v p a n d ef ec hf hk) (ap (λ (t : Turn). told t o') turned ∙ ap badTold written)
+    -- the line of an offset
+    module _ {offset : ℕ} {o1 : List ℕ} {w : Placed} (written : after o1 w ≡ placeOf o place (badLine offset)) {r : Turn} (turned : r ≡ badTurn w) where
+      bad : {n : ℕ} → offset ≡ n → final (told r o1) l ≡ final (badTold (placeOf o place (badLine n))) l
+      bad is = ap (λ (t : Told). final t l) (ap (λ (t : Turn). told t o1) turned ∙ ap badTold written) ∙ ap (λ (t : ℕ). final (badTold (placeOf o place (badLine t))) l) is
 
-  pub malformed : (b : ℕ) → found ≡ CaseAnswer.Malformed b → (offset : ℕ) → offset ≡ offsetOf base b
-      → (o' : List ℕ) (w : Placed) → after o' w ≡ placeOf o place (badLine offset) → (r : Turn) → r ≡ badTurn w
-      → finalBy (told r o') v p a n d ef ec hf hk ≡ turnOf s at base number o place v p a n d ef ec hf hk
-  malformed b is offset place-is o' w written r turned =
-      bad offset o' w written r turned
-      ∙ ap (λ (t : ℕ). finalBy (badTold (placeOf o place (badLine t))) v p a n d ef ec hf hk) place-is
-      ∙ by-found (CaseAnswer.Malformed b) is
+      pub malformed : {b : ℕ} → found ≡ CaseAnswer.Malformed b → offset ≡ offsetOf base b → final (told r o1) l ≡ turnOf f s at base number o place l
+      malformed {b} is at-b = bad at-b ∙ by-found (CaseAnswer.Malformed b) is
 
-  pub cut : found ≡ CaseAnswer.Ended → (offset : ℕ) → offset ≡ offsetOf base (length s)
-      → (o' : List ℕ) (w : Placed) → after o' w ≡ placeOf o place (badLine offset) → (r : Turn) → r ≡ badTurn w
-      → finalBy (told r o') v p a n d ef ec hf hk ≡ turnOf s at base number o place v p a n d ef ec hf hk
-  cut is offset place-is o' w written r turned =
-      bad offset o' w written r turned
-      ∙ ap (λ (t : ℕ). finalBy (badTold (placeOf o place (badLine t))) v p a n d ef ec hf hk) place-is
-      ∙ by-found CaseAnswer.Ended is
+      pub cut : found ≡ CaseAnswer.Ended → offset ≡ offsetOf base (length s) → final (told r o1) l ≡ turnOf f s at base number o place l
+      cut is at-end = bad at-end ∙ by-found CaseAnswer.Ended is

@@ -8,7 +8,7 @@ use mathlib.Core.List.{List, [], _++_, append-nil}
 use mathlib.Core.Logic.{_⊎_, ⊎-elim}
 use lib.ListN.{length, length-append}
 use lib.Dec.{ltb}
-use lib.Ieee.{Float}
+use lib.Ieee.{Format}
 use Rattle.casefile.specs.declared.records.CaseAnswer.{CaseAnswer}
 use Rattle.casefile.specs.Records.{readCase}
 use Rattle.casefile.proofs.Streams.{longer, enough}
@@ -17,7 +17,8 @@ use Rattle.lines.specs.declared.text.Placed.{Placed}
 use Rattle.lines.specs.declared.text.Placed.the-variants as Place
 use Rattle.lines.specs.Text.{placeOf}
 use Rattle.lines.specs.Lines.{lineOf, badLine}
-use Rattle.epa.specs.Final.{Final, finalBy, answered}
+use Rattle.epa_polytope.specs.Stores.{Lists}
+use Rattle.epa.specs.Final.{Final, final, answered}
 use Rattle.window.specs.declared.Turn.{Turn}
 use Rattle.window.specs.declared.Turn.the-variants as Turn
 use Rattle.window.specs.Window.{offsetOf, lineTurn, badTurn}
@@ -46,54 +47,54 @@ moved-bad k Place.NoRoom = refl
 same-offset : (k p : ℕ) → offsetOf 0 (k + p) ≡ offsetOf k p
 same-offset k p = ap (λ (n : ℕ). n % 2 ^ 64) (zero-add (k + p))
 
-module _ (front s behind : List ℕ) (at number : ℕ) (o : List ℕ) (place : ℕ) (v : List Float) (p a : List ℕ) (n : List Float) (d ef ec hf : List ℕ) (hk : List Float) where
+module _ (f : Format) (front s behind : List ℕ) (at number : ℕ) (o : List ℕ) (place : ℕ) (l : Lists) where
   abbrev k : ℕ
   k = length front
 
   -- what the window's turn does by what reading found, of which nothing but `Ended` asks for the length
   abbrev by : CaseAnswer → List ℕ → ℕ → Final Told
-  by x bytes base = turnBy x bytes base number o place v p a n d ef ec hf hk
+  by x bytes base = turnBy f x bytes base number o place l
 
   -- the window holds what decides the record
   abbrev pub Holds : Type 0
   Holds = (at + 160 ≤ length s) ⊎ (behind ≡ [])
 
-  bad-line : (x y : ℕ) → x ≡ y → finalBy (badTold (placeOf o place (badLine x))) v p a n d ef ec hf hk ≡ finalBy (movedTold k (badTold (placeOf o place (badLine y)))) v p a n d ef ec hf hk
+  bad-line : (x y : ℕ) → x ≡ y → final (badTold (placeOf o place (badLine x))) l ≡ final (movedTold k (badTold (placeOf o place (badLine y)))) l
   bad-line x y e =
       let w = placeOf o place (badLine y) in
-      ap (λ (z : ℕ). finalBy (badTold (placeOf o place (badLine z))) v p a n d ef ec hf hk) e ∙ ap (λ (t : Turn). finalBy (told t (w .bytes)) v p a n d ef ec hf hk) (moved-bad k (w .answer))
+      ap (λ (z : ℕ). final (badTold (placeOf o place (badLine z))) l) e ∙ ap (λ (t : Turn). final (told t (w .bytes)) l) (moved-bad k (w .answer))
 
   moved-by : (x : CaseAnswer) (bytes : List ℕ) → (x ≡ CaseAnswer.Ended → length bytes ≡ k + length s) → by (movedCase k x) bytes 0 ≡ answered (movedTold k) (by x s k)
   moved-by (CaseAnswer.Whole c next) bytes h =
-      let x = caseOutcome c v p a n d ef ec hf hk in
-      let w = placeOf o place (lineOf number (x .answer)) in
+      let x = caseOutcome f c l in
+      let w = placeOf o place (lineOf f number (x .answer)) in
       ap
-      (λ (t : Turn). finalBy (told t (w .bytes)) (x .vertices) (x .pts) (x .adj) (x .nums) (x .dead) (x .edgeFaces) (x .edgeCorners) (x .heapFaces) (x .heapKeys))
+      (λ (t : Turn). final (told t (w .bytes)) (x .lists))
       (moved-line k next (w .answer))
   moved-by (CaseAnswer.Malformed b) bytes h = bad-line (offsetOf 0 (k + b)) (offsetOf k b) (same-offset k b)
   moved-by CaseAnswer.Ended bytes h = bad-line (offsetOf 0 (length bytes)) (offsetOf k (length s)) (ap (offsetOf 0) (h refl) ∙ same-offset k (length s))
 
   -- the record that the window has is the file's
-  same-case : Holds → readCase (front ++ (s ++ behind)) (k + at) ≡ movedCase k (readCase s at)
+  same-case : Holds → readCase f (front ++ (s ++ behind)) (k + at) ≡ movedCase k (readCase f s at)
   same-case = ⊎-elim
-      (λ fits. shifted-case front (s ++ behind) at ∙ ap (movedCase k) (longer s behind at (enough s at fits)))
-      (λ none. shifted-case front (s ++ behind) at ∙ ap (λ (t : List ℕ). movedCase k (readCase t at)) (ap (λ (t : List ℕ). s ++ t) none ∙ append-nil s))
+      (λ fits. shifted-case f front (s ++ behind) at ∙ ap (movedCase k) (longer f s behind at (enough f s at fits)))
+      (λ none. shifted-case f front (s ++ behind) at ∙ ap (λ (t : List ℕ). movedCase k (readCase f t at)) (ap (λ (t : List ℕ). s ++ t) none ∙ append-nil s))
 
   -- a record that ends with the window does so because the file does
-  same-end : Holds → readCase s at ≡ CaseAnswer.Ended → length (front ++ (s ++ behind)) ≡ k + length s
+  same-end : Holds → readCase f s at ≡ CaseAnswer.Ended → length (front ++ (s ++ behind)) ≡ k + length s
   same-end = ⊎-elim
-      (λ fits e. absurd (enough s at fits e))
+      (λ fits e. absurd (enough f s at fits e))
       (λ none e. ap (λ (t : List ℕ). length (front ++ t)) (ap (λ (t : List ℕ). s ++ t) none ∙ append-nil s) ∙ length-append front s)
 
   pick-moved : (t : Bool) (y y' : Final Told) → y' ≡ answered (movedTold k) y
-      → cond t (finalBy (told Turn.AllRead o) v p a n d ef ec hf hk) y' ≡ answered (movedTold k) (cond t (finalBy (told Turn.AllRead o) v p a n d ef ec hf hk) y)
+      → cond t (final (told Turn.AllRead o) l) y' ≡ answered (movedTold k) (cond t (final (told Turn.AllRead o) l) y)
   pick-moved true y y' e = refl
   pick-moved false y y' e = e
 
   -- what the program does with a window is what it would do with the whole file at hand
   pub window-turn : Holds
-      → turnOf (front ++ (s ++ behind)) (k + at) 0 number o place v p a n d ef ec hf hk ≡ answered (movedTold k) (turnOf s at k number o place v p a n d ef ec hf hk)
+      → turnOf f (front ++ (s ++ behind)) (k + at) 0 number o place l ≡ answered (movedTold k) (turnOf f s at k number o place l)
   unfolding turnOf
   window-turn h =
-      pick-moved (ltb mostRecords number) (by (readCase s at) s k) (by (readCase (front ++ (s ++ behind)) (k + at)) (front ++ (s ++ behind)) 0)
-      (ap (λ (x : CaseAnswer). by x (front ++ (s ++ behind)) 0) (same-case h) ∙ moved-by (readCase s at) (front ++ (s ++ behind)) (same-end h))
+      pick-moved (ltb mostRecords number) (by (readCase f s at) s k) (by (readCase f (front ++ (s ++ behind)) (k + at)) (front ++ (s ++ behind)) 0)
+      (ap (λ (x : CaseAnswer). by x (front ++ (s ++ behind)) 0) (same-case h) ∙ moved-by (readCase f s at) (front ++ (s ++ behind)) (same-end h))

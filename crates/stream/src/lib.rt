@@ -1,7 +1,7 @@
 // A case file read through a window, a record at a time: what one turn puts out. The reading and writing are the program's;
 // what a turn reads and writes is here, on slices.
-ghost use mathlib.Core.Path.{_≡_};
-ghost use Rattle.epa.specs.Final.{finalBy};
+ghost use lib.Ieee.{binary32};
+ghost use Rattle.epa.specs.Final.{allLent, Ends};
 ghost use Rattle.stream.specs.Stream.{told, turnOf};
 use casefile::CaseAnswer;
 use window::Turn;
@@ -22,16 +22,15 @@ pub fn answer_next(
     out: &mut [u8],
     place: usize,
     vertices: &mut [f32],
-    pts: &mut [usize],
-    adj: &mut [usize],
-    nums: &mut [f32],
-    dead: &mut [u8],
-    edge_face: &mut [usize],
-    edge_corner: &mut [usize],
-    heap_face: &mut [usize],
-    heap_key: &mut [f32],
+    ids: &mut [usize],
+    floats: &mut [f32],
+    deleted: &mut [u8],
+    edges: &mut [usize],
+    heap_ids: &mut [usize],
+    heap_keys: &mut [f32],
 ) -> Turn
-    ensures { λ r. ⌜ finalBy (told r (now (out .exit))) (now (vertices .exit)) (now (pts .exit)) (now (adj .exit)) (now (nums .exit)) (now (dead .exit)) (now («edge_face» .exit)) (now («edge_corner» .exit)) (now («heap_face» .exit)) (now («heap_key» .exit)) ≡ turnOf (now (bytes .entry)) at base number (now (out .entry)) place (now (vertices .entry)) (now (pts .entry)) (now (adj .entry)) (now (nums .entry)) (now (dead .entry)) (now («edge_face» .entry)) (now («edge_corner» .entry)) (now («heap_face» .entry)) (now («heap_key» .entry)) ⌝ }
+    ensures { λ r. ⌜ Ends (turnOf binary32 (now (bytes .entry)) at base number (now (out .entry)) place) (told r (now (out .exit)))
+        (λ m. allLent m vertices ids floats deleted edges «heap_ids» «heap_keys») ⌝ }
 {
     if MOST_RECORDS < number {
         return Turn::AllRead;
@@ -51,14 +50,12 @@ pub fn answer_next(
                 case.max_dist,
                 case.exact,
                 vertices,
-                pts,
-                adj,
-                nums,
-                dead,
-                edge_face,
-                edge_corner,
-                heap_face,
-                heap_key,
+                ids,
+                floats,
+                deleted,
+                edges,
+                heap_ids,
+                heap_keys,
             );
             let written = lines::write_line(out, place, number, outcome);
             line_turn(next, written)

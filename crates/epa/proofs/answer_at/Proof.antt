@@ -1,5 +1,4 @@
 -- What `answer_at` returns. Assumes nothing.
-use borrow.Author.Needs.{needs}
 use Rattle.epa.proofs.answer_at.Statement.{statement}
 use Rattle.epa.proofs.answer_at.Tie as tie
 

@@ -7,10 +7,21 @@ use Rattle.separation.proofs.main.Statement.{statement}
 use Rattle.separation.proofs.main.Tie as tie
 
 abbrev Inv-loop : tie.InvT-loop
-Inv-loop input₀ out₀ vertices₀ pts₀ adj₀ nums₀ dead₀ edge-face₀ edge-corner₀ heap-face₀ heap-key₀ state₀ n₀ input out vertices pts adj nums dead edge-face edge-corner heap-face heap-key state n = (n ≤ 4294967296) × (length input ≡ 65536) × (length out ≡ 65536) × (length vertices ≡ 945) × (length pts ≡ 3000) × (length adj ≡ 3000) × (length nums ≡ 6000) × (length dead ≡ 1000) × (length edge-face ≡ 206) × (length edge-corner ≡ 206) × (length heap-face ≡ 1000) × (length heap-key ≡ 1000)
+Inv-loop input₀ out₀ vertices₀ ids₀ floats₀ deleted₀ edges₀ heap-ids₀ heap-keys₀ state₀ n₀ input out vertices ids floats deleted edges heap-ids heap-keys state n = record {
+  few : n ≤ 4294967296;
+  input : length input ≡ 65536;
+  out : length out ≡ 65536;
+  vertices : length vertices ≡ 945;
+  ids : length ids ≡ 6000;
+  floats : length floats ≡ 6000;
+  deleted : length deleted ≡ 1000;
+  edges : length edges ≡ 412;
+  heap-ids : length heap-ids ≡ 1000;
+  heap-keys : length heap-keys ≡ 1000;
+}
 
 abbrev μ-loop : tie.MeasureT-loop
-μ-loop input₀ out₀ vertices₀ pts₀ adj₀ nums₀ dead₀ edge-face₀ edge-corner₀ heap-face₀ heap-key₀ state₀ n₀ input out vertices pts adj nums dead edge-face edge-corner heap-face heap-key state n = 4294967296 - n
+μ-loop input₀ out₀ vertices₀ ids₀ floats₀ deleted₀ edges₀ heap-ids₀ heap-keys₀ state₀ n₀ input out vertices ids floats deleted edges heap-ids heap-keys state n = 4294967296 - n
 
 large-buffer-requires : tie.Need-large-buffer-requires Inv-loop μ-loop
 large-buffer-requires c κs = search needs
@@ -34,4 +45,8 @@ finish-requires-2 : tie.Need-finish-requires-2 Inv-loop μ-loop
 finish-requires-2 c κs = search needs
 
 pub main-spec : {M : Type 1} → statement M
-main-spec = tie.close (tie.spec Inv-loop μ-loop large-buffer-requires large-buffer-requires-2 (λ c. search needs) begun-requires (λ c. search needs) (λ c. search needs) (λ c. search needs) (λ c. search needs) (λ c. search needs) (λ c. search needs) (λ c. search needs) (λ c. search needs) (λ c. search needs) (λ c. search needs) (λ c. search needs) (λ c. search needs) (λ c. search needs) turn-requires is-open-requires (λ c. search needs) finish-requires (λ c. search needs) (λ c. search needs) (λ c. search needs) (λ c. search needs) (λ c. search needs) finish-requires-2 (λ c. search needs))
+main-spec = tie.close (tie.spec Inv-loop μ-loop large-buffer-requires large-buffer-requires-2 (λ c. search needs) begun-requires
+    (λ c. search needs) (λ c. search needs) (λ c. search needs) (λ c. search needs) (λ c. search needs) (λ c. search needs) (λ c. search needs) (λ c. search needs) (λ c. search needs)
+    (λ c. search needs) (λ c. search needs)
+    turn-requires is-open-requires (λ c. search needs) finish-requires (λ c. search needs) (λ c. search needs) (λ c. search needs) (λ c. search needs) (λ c. search needs) finish-requires-2
+    (λ c. search needs))

@@ -1,2 +1,0 @@
--- What the functions' proofs cite: the steps of the first four faces.
-pub mod Starting
