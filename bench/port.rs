@@ -54,26 +54,24 @@ impl From<&Record> for Call {
 /// The stores that each call is lent: as long as the program's.
 pub struct Room {
     vertices: Vec<f32>,
-    pts: Vec<usize>,
-    adj: Vec<usize>,
-    nums: Vec<f32>,
-    dead: Vec<u8>,
+    ids: Vec<usize>,
+    floats: Vec<f32>,
+    deleted: Vec<u8>,
     edges: Vec<Edge>,
-    heap_face: Vec<usize>,
-    heap_key: Vec<f32>,
+    heap_ids: Vec<usize>,
+    heap_keys: Vec<f32>,
 }
 
 impl Default for Room {
     fn default() -> Self {
         Self {
             vertices: vec![0.0; 9 * ROOMS.vertices],
-            pts: vec![0; 3 * ROOMS.faces],
-            adj: vec![0; 3 * ROOMS.faces],
-            nums: vec![0.0; 6 * ROOMS.faces],
-            dead: vec![0; ROOMS.faces],
+            ids: vec![0; 6 * ROOMS.faces],
+            floats: vec![0.0; 6 * ROOMS.faces],
+            deleted: vec![0; ROOMS.faces],
             edges: vec![Edge { face: 0, corner: 0 }; ROOMS.edges],
-            heap_face: vec![0; ROOMS.heap],
-            heap_key: vec![0.0; ROOMS.heap],
+            heap_ids: vec![0; ROOMS.heap],
+            heap_keys: vec![0.0; ROOMS.heap],
         }
     }
 }
@@ -82,13 +80,12 @@ impl Room {
     fn lent(&mut self) -> Stores<'_> {
         Stores {
             vertices: &mut self.vertices,
-            pts: &mut self.pts,
-            adj: &mut self.adj,
-            nums: &mut self.nums,
-            dead: &mut self.dead,
+            ids: &mut self.ids,
+            floats: &mut self.floats,
+            deleted: &mut self.deleted,
             edges: &mut self.edges,
-            heap_face: &mut self.heap_face,
-            heap_key: &mut self.heap_key,
+            heap_ids: &mut self.heap_ids,
+            heap_keys: &mut self.heap_keys,
         }
     }
 }

@@ -80,16 +80,16 @@ pub struct Impact {
     pub dir: Vector,
 }
 
-/// The stores that a run borrows. A store of several slices is as long as the fewest whole records that one holds.
+/// The stores that a run borrows: nine numbers a vertex; of a face six numbers in `ids`, six in `floats` and its deletion
+/// mark; one record an edge; two slices for the heap. A store of several slices is as long as the fewest whole records that one holds.
 pub struct Stores<'a> {
     pub vertices: &'a mut [f32],
-    pub pts: &'a mut [usize],
-    pub adj: &'a mut [usize],
-    pub nums: &'a mut [f32],
-    pub dead: &'a mut [u8],
+    pub ids: &'a mut [usize],
+    pub floats: &'a mut [f32],
+    pub deleted: &'a mut [u8],
     pub edges: &'a mut [Edge],
-    pub heap_face: &'a mut [usize],
-    pub heap_key: &'a mut [f32],
+    pub heap_ids: &'a mut [usize],
+    pub heap_keys: &'a mut [f32],
 }
 
 #[repr(C)]
@@ -124,20 +124,18 @@ unsafe extern "C" {
         exact: bool,
         vertices: *mut f32,
         vertices_length: usize,
-        pts: *mut usize,
-        pts_length: usize,
-        adj: *mut usize,
-        adj_length: usize,
-        nums: *mut f32,
-        nums_length: usize,
-        dead: *mut u8,
-        dead_length: usize,
+        ids: *mut usize,
+        ids_length: usize,
+        floats: *mut f32,
+        floats_length: usize,
+        deleted: *mut u8,
+        deleted_length: usize,
         edges: *mut Edge,
         edges_length: usize,
-        heap_face: *mut usize,
-        heap_face_length: usize,
-        heap_key: *mut f32,
-        heap_key_length: usize,
+        heap_ids: *mut usize,
+        heap_ids_length: usize,
+        heap_keys: *mut f32,
+        heap_keys_length: usize,
     ) -> Answer;
     safe fn separation_vote(a: Answer, b: Answer, c: Answer) -> Voted;
     safe fn separation_cast(pos12: Pose, g1: ShapeRecord, g2: ShapeRecord, ray: Ray, max_time: f32) -> Impact;
@@ -156,20 +154,18 @@ pub fn run(pos12: Pose, g1: Shape, g2: Shape, dir: Vector, max_dist: f32, exact:
             exact,
             s.vertices.as_mut_ptr(),
             s.vertices.len(),
-            s.pts.as_mut_ptr(),
-            s.pts.len(),
-            s.adj.as_mut_ptr(),
-            s.adj.len(),
-            s.nums.as_mut_ptr(),
-            s.nums.len(),
-            s.dead.as_mut_ptr(),
-            s.dead.len(),
+            s.ids.as_mut_ptr(),
+            s.ids.len(),
+            s.floats.as_mut_ptr(),
+            s.floats.len(),
+            s.deleted.as_mut_ptr(),
+            s.deleted.len(),
             s.edges.as_mut_ptr(),
             s.edges.len(),
-            s.heap_face.as_mut_ptr(),
-            s.heap_face.len(),
-            s.heap_key.as_mut_ptr(),
-            s.heap_key.len(),
+            s.heap_ids.as_mut_ptr(),
+            s.heap_ids.len(),
+            s.heap_keys.as_mut_ptr(),
+            s.heap_keys.len(),
         )
     }
 }

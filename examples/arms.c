@@ -8,12 +8,12 @@
 enum { VERTICES = 105, FACES = 1000, EDGES = 206, HEAP = 1000 };
 
 static float vertices[9 * VERTICES];
-static size_t pts[3 * FACES], adj[3 * FACES];
-static float nums[6 * FACES];
-static uint8_t dead[FACES];
+static size_t ids[6 * FACES];
+static float floats[6 * FACES];
+static uint8_t deleted[FACES];
 static separation_edge edges[EDGES];
-static size_t heap_face[HEAP];
-static float heap_key[HEAP];
+static size_t heap_ids[HEAP];
+static float heap_keys[HEAP];
 
 #define LENT(slice) slice, sizeof slice / sizeof slice[0]
 
@@ -23,8 +23,8 @@ static separation_answer run(float along_x)
     separation_shape lower = {SEPARATION_CUBOID, {0.5f, 0.25f, 1}, {0, 0, 0}, {0, 0, 0}};
     separation_pose pose = {0, 0, 0, 1, {along_x, 0, 0.5f}};
     separation_vector dir = {1, 0, 0};
-    return separation_run(pose, upper, lower, dir, 10, true, LENT(vertices), LENT(pts), LENT(adj), LENT(nums),
-                          LENT(dead), LENT(edges), LENT(heap_face), LENT(heap_key));
+    return separation_run(pose, upper, lower, dir, 10, true, LENT(vertices), LENT(ids), LENT(floats),
+                          LENT(deleted), LENT(edges), LENT(heap_ids), LENT(heap_keys));
 }
 
 static void print_vector(separation_vector v)

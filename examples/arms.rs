@@ -17,13 +17,12 @@ fn links(along_x: f32) -> Answer {
     let pose = Pose { rotation: [0.0, 0.0, 0.0, 1.0], translation: vector(along_x, 0.0, 0.5) };
     let mut stores = Stores {
         vertices: &mut [0.0; 9 * 105],
-        pts: &mut [0; 3 * FACES],
-        adj: &mut [0; 3 * FACES],
-        nums: &mut [0.0; 6 * FACES],
-        dead: &mut [0; FACES],
+        ids: &mut [0; 6 * FACES],
+        floats: &mut [0.0; 6 * FACES],
+        deleted: &mut [0; FACES],
         edges: &mut [Edge::default(); 206],
-        heap_face: &mut [0; 1000],
-        heap_key: &mut [0.0; 1000],
+        heap_ids: &mut [0; 1000],
+        heap_keys: &mut [0.0; 1000],
     };
     run(pose, upper, lower, vector(1.0, 0.0, 0.0), 10.0, true, &mut stores)
 }

@@ -71,19 +71,18 @@ typedef struct {
  *
  * Four stores are lent, each slice as a pointer and its length. A store of several slices is as long as the fewest
  * whole records that one of them holds. 105 vertices, 10,710 faces, 206 edges and 10,710 heap entries are never refused.
- *   vertices: nine numbers each          faces: three in pts, three in adj, six in nums, one in dead
+ *   vertices: nine numbers each          faces: six in ids, six in floats, one in deleted
  *   edges: one record each               heap entries: one in each of two slices */
 separation_answer separation_run(
     separation_pose pos12, separation_shape g1, separation_shape g2,
     separation_vector dir, float max_dist, bool exact,
     float *vertices, size_t vertices_length,
-    size_t *pts, size_t pts_length,
-    size_t *adj, size_t adj_length,
-    float *nums, size_t nums_length,
-    uint8_t *dead, size_t dead_length,
+    size_t *ids, size_t ids_length,
+    float *floats, size_t floats_length,
+    uint8_t *deleted, size_t deleted_length,
     separation_edge *edges, size_t edges_length,
-    size_t *heap_face, size_t heap_face_length,
-    float *heap_key, size_t heap_key_length);
+    size_t *heap_ids, size_t heap_ids_length,
+    float *heap_keys, size_t heap_keys_length);
 
 /* Two out of three. Answers agree when outcome and counts are the same and the bits of each float, all NaNs counting
  * as one: a NaN agrees with a NaN, and -0 not with +0. */

@@ -1,26 +1,25 @@
 // The separation channel with the silhouette's store lent as one list of records, each a face number and a corner: what the crate
-// `channel` does on two rows of numbers by value, which are written back over the records.
+// `channel` does on a row of numbers by value, two places an edge, which is written back over the records.
 ghost use mathlib.Core.Path.{_≡_};
-ghost use Prim.Native.Nat.{_≤_};
-ghost use lib.ListN.{length, take};
-ghost use Rattle.epa.specs.Final.{finalBy};
-ghost use Rattle.epa_lent.specs.Lent.{finalEdges};
+ghost use lib.Ieee.{binary32};
+ghost use Rattle.edges.specs.Edges.{Whole};
+ghost use Rattle.epa.specs.Final.{Ends};
+ghost use Rattle.epa_lent.specs.Lent.{either, rowLent, recordsLent, onFirst};
 ghost use Rattle.channel.specs.Channel.{separated};
-ghost use Rattle.channel_lent.specs.Lent.{separatedEdges};
 use edges::Edge;
-use edges::Rows;
+use edges::Row;
 use lines::Outcome;
 use shape::Shape;
 use vector::Pose;
 use vector::Vec3;
 
-// What the channel on rows answers, and the rows that it leaves.
+// What the channel on a row answers, and the row that it leaves.
 struct Ran {
     answer: Outcome,
-    rows: Rows,
+    row: Row,
 }
 
-fn run_rows(
+fn run_row(
     pos12: Pose,
     g1: Shape,
     g2: Shape,
@@ -28,20 +27,19 @@ fn run_rows(
     max_dist: f32,
     exact: bool,
     vertices: &mut [f32],
-    pts: &mut [usize],
-    adj: &mut [usize],
-    nums: &mut [f32],
-    dead: &mut [u8],
-    rows: Rows,
-    heap_face: &mut [usize],
-    heap_key: &mut [f32],
+    ids: &mut [usize],
+    floats: &mut [f32],
+    deleted: &mut [u8],
+    row: Row,
+    heap_ids: &mut [usize],
+    heap_keys: &mut [f32],
 ) -> Ran
-    requires { ⌜ (rows .n ≤ length (rows .faces)) × (rows .n ≤ length (rows .corners)) ⌝ }
-    ensures { λ r. ⌜ (finalBy (r .answer) (now (vertices .exit)) (now (pts .exit)) (now (adj .exit)) (now (nums .exit)) (now (dead .exit)) (take (rows .n) (r .rows .faces)) (take (rows .n) (r .rows .corners)) (now («heap_face» .exit)) (now («heap_key» .exit)) ≡ separated pos12 g1 g2 dir «max_dist» exact (now (vertices .entry)) (now (pts .entry)) (now (adj .entry)) (now (nums .entry)) (now (dead .entry)) (take (rows .n) (rows .faces)) (take (rows .n) (rows .corners)) (now («heap_face» .entry)) (now («heap_key» .entry))) × (r .rows .n ≡ rows .n) ⌝ }
+    requires { ⌜ Whole row ⌝ }
+    ensures { λ r. ⌜ Ends (separated binary32 pos12 g1 g2 dir «max_dist» exact) (r .answer)
+        (λ m. rowLent m vertices ids floats deleted (either m row (r .row)) «heap_ids» «heap_keys») × (r .row .n ≡ row .n) ⌝ }
 {
-    let mut faces = rows.faces;
-    let mut corners = rows.corners;
-    let n = rows.n;
+    let mut pairs = row.pairs;
+    let n = row.n;
     let answer = channel::separate(
         pos12,
         g1,
@@ -50,18 +48,16 @@ fn run_rows(
         max_dist,
         exact,
         vertices,
-        pts,
-        adj,
-        nums,
-        dead,
-        &mut faces[..n],
-        &mut corners[..n],
-        heap_face,
-        heap_key,
+        ids,
+        floats,
+        deleted,
+        &mut pairs[..n * 2],
+        heap_ids,
+        heap_keys,
     );
     Ran {
         answer,
-        rows: Rows { faces, corners, n },
+        row: Row { pairs, n },
     }
 }
 
@@ -74,18 +70,18 @@ pub fn separate(
     max_dist: f32,
     exact: bool,
     vertices: &mut [f32],
-    pts: &mut [usize],
-    adj: &mut [usize],
-    nums: &mut [f32],
-    dead: &mut [u8],
+    ids: &mut [usize],
+    floats: &mut [f32],
+    deleted: &mut [u8],
     edges: &mut [Edge],
-    heap_face: &mut [usize],
-    heap_key: &mut [f32],
+    heap_ids: &mut [usize],
+    heap_keys: &mut [f32],
 ) -> Outcome
-    ensures { λ r. ⌜ finalEdges r (now (vertices .exit)) (now (pts .exit)) (now (adj .exit)) (now (nums .exit)) (now (dead .exit)) (now (edges .exit)) (now («heap_face» .exit)) (now («heap_key» .exit)) ≡ separatedEdges pos12 g1 g2 dir «max_dist» exact (now (vertices .entry)) (now (pts .entry)) (now (adj .entry)) (now (nums .entry)) (now (dead .entry)) (now (edges .entry)) (now («heap_face» .entry)) (now («heap_key» .entry)) ⌝ }
+    ensures { λ r. ⌜ Ends (onFirst (separated binary32 pos12 g1 g2 dir «max_dist» exact)) r
+        (λ m. recordsLent m vertices ids floats deleted edges «heap_ids» «heap_keys») ⌝ }
 {
-    let rows = edges::rows_of(edges);
-    let ran = run_rows(
+    let row = edges::row_of(edges);
+    let ran = run_row(
         pos12,
         g1,
         g2,
@@ -93,14 +89,13 @@ pub fn separate(
         max_dist,
         exact,
         vertices,
-        pts,
-        adj,
-        nums,
-        dead,
-        rows,
-        heap_face,
-        heap_key,
+        ids,
+        floats,
+        deleted,
+        row,
+        heap_ids,
+        heap_keys,
     );
-    edges::publish(edges, ran.rows);
+    edges::publish(edges, ran.row);
     ran.answer
 }

@@ -1,8 +1,8 @@
 // The silhouette's store as the scope document has it, a list of records, each a face number and a corner, lent as a slice. What
-// works on two rows of numbers is handed the records by value, and its rows are written back over them.
+// works on one row of numbers, two places an edge, is handed the records by value, and its row is written back over them.
 ghost use mathlib.Core.Path.{_≡_};
 ghost use Prim.Native.Nat.{min};
-ghost use Rattle.edges.specs.Edges.{rowsOf, published};
+ghost use Rattle.edges.specs.Edges.{rowOf, published};
 
 #[repr(C)]
 pub struct Edge {
@@ -10,10 +10,9 @@ pub struct Edge {
     pub corner: usize,
 }
 
-// The first `n` records of a store. A pass never records more than 206.
-pub struct Rows {
-    pub faces: [usize; 206],
-    pub corners: [usize; 206],
+// The first `n` records of a store, each a pair of places. A pass never records more than 206.
+pub struct Row {
+    pub pairs: [usize; 412],
     pub n: usize,
 }
 
@@ -26,7 +25,7 @@ fn smaller(a: usize, b: usize) -> usize
     b
 }
 
-// How many of `n` records are written to a store of `len`.
+// How many of `n` records, of which a row holds 206 at most, are written where there is room for `len`.
 fn written(n: usize, len: usize) -> usize
     ensures { λ r. ⌜ r ≡ min (min n 206) len ⌝ }
 {
@@ -35,34 +34,32 @@ fn written(n: usize, len: usize) -> usize
 }
 
 // The store's first records by value, at most 206.
-pub fn rows_of(edges: &[Edge]) -> Rows
-    ensures { λ r. ⌜ r ≡ rowsOf (now (edges .entry)) ⌝ }
+pub fn row_of(edges: &[Edge]) -> Row
+    ensures { λ r. ⌜ r ≡ rowOf (now (edges .entry)) ⌝ }
 {
-    let mut faces = [0; 206];
-    let mut corners = [0; 206];
-    let n = smaller(edges.len(), 206);
+    let mut pairs = [0; 412];
+    let n = written(edges.len(), 206);
     let mut i = 0;
     while i < n {
         let e = edges[i];
-        faces[i] = e.face;
-        corners[i] = e.corner;
+        pairs[i * 2] = e.face;
+        pairs[i * 2 + 1] = e.corner;
         i += 1;
     }
-    Rows { faces, corners, n }
+    Row { pairs, n }
 }
 
-// The rows' records over the store's, as far as it goes; places beyond stay.
-pub fn publish(edges: &mut [Edge], rows: Rows)
-    ensures { λ _. ⌜ now (edges .exit) ≡ published rows (now (edges .entry)) ⌝ }
+// The row's records over the store's, as far as it goes; places beyond stay.
+pub fn publish(edges: &mut [Edge], row: Row)
+    ensures { λ _. ⌜ now (edges .exit) ≡ published row (now (edges .entry)) ⌝ }
 {
-    let faces = rows.faces;
-    let corners = rows.corners;
-    let n = written(rows.n, edges.len());
+    let pairs = row.pairs;
+    let n = written(row.n, edges.len());
     let mut i = 0;
     while i < n {
         edges[i] = Edge {
-            face: faces[i],
-            corner: corners[i],
+            face: pairs[i * 2],
+            corner: pairs[i * 2 + 1],
         };
         i += 1;
     }

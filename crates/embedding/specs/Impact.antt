@@ -1,6 +1,6 @@
--- The cast for a caller in another language: its answer as a record. Definitions only.
+-- The cast for a caller in another language: its answer as a record. Any format. Definitions only.
 use Prim.Native.Nat.{ℕ}
-use lib.Ieee.{Float, binary32}
+use lib.Ieee.{Float, Format}
 use Rattle.vector.specs.declared.vec3.Vec3.{Vec3}
 use Rattle.vector.specs.declared.pose.Pose.{Pose}
 use Rattle.vector.specs.Vector.{zeroF, zeroV}
@@ -23,7 +23,7 @@ castRecord c = recordOf (castNumber c) (castValues c .time) (castValues c .dir)
 unfoldable pub malformedCast : CastRecord
 malformedCast = recordOf 4 zeroF zeroV
 
-abbrev pub castBetween : Pose → MaybeShape → MaybeShape → Ray → Float → CastRecord
-castBetween m (Some g1) (Some g2) ray maxTime = castRecord (minkowskiRayCast binary32 (fromShapes binary32 m g1 g2) ray maxTime)
-castBetween m (Some g1) None ray maxTime = malformedCast
-castBetween m None x ray maxTime = malformedCast
+abbrev pub castBetween : Format → Pose → MaybeShape → MaybeShape → Ray → Float → CastRecord
+castBetween f m (Some g1) (Some g2) ray maxTime = castRecord (minkowskiRayCast f (fromShapes f m g1 g2) ray maxTime)
+castBetween f m (Some g1) None ray maxTime = malformedCast
+castBetween f m None x ray maxTime = malformedCast

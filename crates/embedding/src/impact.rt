@@ -1,5 +1,6 @@
 // The cast under a C name: when a shape that is swept along a line meets another.
 ghost use mathlib.Core.Path.{_≡_};
+ghost use lib.Ieee.{binary32};
 ghost use Rattle.answers.specs.Answers.{shapeOf};
 ghost use Rattle.embedding.specs.Impact.{castRecord, malformedCast, castBetween};
 use answers::MaybeShape;
@@ -59,7 +60,7 @@ pub extern "C" fn separation_cast(
     ray: Ray,
     max_time_of_impact: f32,
 ) -> CastRecord
-    ensures { λ r. ⌜ r ≡ castBetween pos12 (shapeOf g1) (shapeOf g2) ray «max_time_of_impact» ⌝ }
+    ensures { λ r. ⌜ r ≡ castBetween binary32 pos12 (shapeOf g1) (shapeOf g2) ray «max_time_of_impact» ⌝ }
 {
     let MaybeShape::Some(first) = shape_of(g1) else {
         return malformed_cast();

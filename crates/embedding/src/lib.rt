@@ -1,14 +1,13 @@
 // The channel, the vote and the cast (impact.rt) under C names, for a caller in another language (include/separation.h). Each is lent what it needs: nothing is
 // allocated and nothing kept. Stores of any lengths are taken; a kind of shape above 3 is answered as malformed.
 ghost use mathlib.Core.Path.{_≡_};
-ghost use Rattle.vote.specs.Vote.{voteOf};
-ghost use Prim.Native.Nat.{_≤_};
 ghost use lib.Ieee.{binary32};
-ghost use lib.ListN.{length, take};
-ghost use Rattle.epa.specs.Final.{finalBy};
-ghost use Rattle.epa_lent.specs.Lent.{finalEdges};
+ghost use Rattle.vote.specs.Vote.{voteOf};
+ghost use Rattle.edges.specs.Edges.{Whole};
+ghost use Rattle.epa.specs.Final.{Ends, allLent};
+ghost use Rattle.epa_lent.specs.Lent.{either, rowLent, recordsLent, onFirst};
 ghost use Rattle.answers.specs.Answers.{shapeOf, votedOf};
-ghost use Rattle.embedding.specs.Embedding.{ran, ranEdges};
+ghost use Rattle.embedding.specs.Embedding.{ran};
 
 mod impact;
 
@@ -20,13 +19,13 @@ use answers::malformed_answer;
 use answers::shape_of;
 use answers::voted_of;
 use edges::Edge;
-use edges::Rows;
+use edges::Row;
 use vector::Pose;
 use vector::Vec3;
 use vote::Answer;
 
-// The channel over two number slices, once both kinds are known.
-fn run_columns(
+// The channel over the numbers of the edges, once both kinds are known.
+fn run_numbers(
     pos12: Pose,
     g1: ShapeRecord,
     g2: ShapeRecord,
@@ -34,16 +33,14 @@ fn run_columns(
     max_dist: f32,
     exact: bool,
     vertices: &mut [f32],
-    pts: &mut [usize],
-    adj: &mut [usize],
-    nums: &mut [f32],
-    dead: &mut [u8],
-    edge_face: &mut [usize],
-    edge_corner: &mut [usize],
-    heap_face: &mut [usize],
-    heap_key: &mut [f32],
+    ids: &mut [usize],
+    floats: &mut [f32],
+    deleted: &mut [u8],
+    edges: &mut [usize],
+    heap_ids: &mut [usize],
+    heap_keys: &mut [f32],
 ) -> Answer
-    ensures { λ r. ⌜ finalBy r (now (vertices .exit)) (now (pts .exit)) (now (adj .exit)) (now (nums .exit)) (now (dead .exit)) (now («edge_face» .exit)) (now («edge_corner» .exit)) (now («heap_face» .exit)) (now («heap_key» .exit)) ≡ ran pos12 (shapeOf g1) (shapeOf g2) dir «max_dist» exact (now (vertices .entry)) (now (pts .entry)) (now (adj .entry)) (now (nums .entry)) (now (dead .entry)) (now («edge_face» .entry)) (now («edge_corner» .entry)) (now («heap_face» .entry)) (now («heap_key» .entry)) ⌝ }
+    ensures { λ r. ⌜ Ends (ran binary32 pos12 (shapeOf g1) (shapeOf g2) dir «max_dist» exact) r (λ m. allLent m vertices ids floats deleted edges «heap_ids» «heap_keys») ⌝ }
 {
     let MaybeShape::Some(first) = shape_of(g1) else {
         return malformed_answer();
@@ -59,25 +56,23 @@ fn run_columns(
         max_dist,
         exact,
         vertices,
-        pts,
-        adj,
-        nums,
-        dead,
-        edge_face,
-        edge_corner,
-        heap_face,
-        heap_key,
+        ids,
+        floats,
+        deleted,
+        edges,
+        heap_ids,
+        heap_keys,
     );
     answer_of(outcome)
 }
 
-// What a run on rows by value answers, and the rows that it leaves.
+// What a run on a row by value answers, and the row that it leaves.
 struct Ran {
     answer: Answer,
-    rows: Rows,
+    row: Row,
 }
 
-fn run_rows(
+fn run_row(
     pos12: Pose,
     g1: ShapeRecord,
     g2: ShapeRecord,
@@ -85,21 +80,20 @@ fn run_rows(
     max_dist: f32,
     exact: bool,
     vertices: &mut [f32],
-    pts: &mut [usize],
-    adj: &mut [usize],
-    nums: &mut [f32],
-    dead: &mut [u8],
-    rows: Rows,
-    heap_face: &mut [usize],
-    heap_key: &mut [f32],
+    ids: &mut [usize],
+    floats: &mut [f32],
+    deleted: &mut [u8],
+    row: Row,
+    heap_ids: &mut [usize],
+    heap_keys: &mut [f32],
 ) -> Ran
-    requires { ⌜ (rows .n ≤ length (rows .faces)) × (rows .n ≤ length (rows .corners)) ⌝ }
-    ensures { λ r. ⌜ (finalBy (r .answer) (now (vertices .exit)) (now (pts .exit)) (now (adj .exit)) (now (nums .exit)) (now (dead .exit)) (take (rows .n) (r .rows .faces)) (take (rows .n) (r .rows .corners)) (now («heap_face» .exit)) (now («heap_key» .exit)) ≡ ran pos12 (shapeOf g1) (shapeOf g2) dir «max_dist» exact (now (vertices .entry)) (now (pts .entry)) (now (adj .entry)) (now (nums .entry)) (now (dead .entry)) (take (rows .n) (rows .faces)) (take (rows .n) (rows .corners)) (now («heap_face» .entry)) (now («heap_key» .entry))) × (r .rows .n ≡ rows .n) ⌝ }
+    requires { ⌜ Whole row ⌝ }
+    ensures { λ r. ⌜ Ends (ran binary32 pos12 (shapeOf g1) (shapeOf g2) dir «max_dist» exact) (r .answer)
+        (λ m. rowLent m vertices ids floats deleted (either m row (r .row)) «heap_ids» «heap_keys») × (r .row .n ≡ row .n) ⌝ }
 {
-    let mut faces = rows.faces;
-    let mut corners = rows.corners;
-    let n = rows.n;
-    let answer = run_columns(
+    let mut pairs = row.pairs;
+    let n = row.n;
+    let answer = run_numbers(
         pos12,
         g1,
         g2,
@@ -107,22 +101,20 @@ fn run_rows(
         max_dist,
         exact,
         vertices,
-        pts,
-        adj,
-        nums,
-        dead,
-        &mut faces[..n],
-        &mut corners[..n],
-        heap_face,
-        heap_key,
+        ids,
+        floats,
+        deleted,
+        &mut pairs[..n * 2],
+        heap_ids,
+        heap_keys,
     );
     Ran {
         answer,
-        rows: Rows { faces, corners, n },
+        row: Row { pairs, n },
     }
 }
 
-// The channel's answer for C. The records of edges go in as two rows of numbers and are written back.
+// The channel's answer for C. The records of edges go in as a row of numbers and are written back.
 #[no_mangle]
 pub extern "C" fn separation_run(
     pos12: Pose,
@@ -132,18 +124,18 @@ pub extern "C" fn separation_run(
     max_dist: f32,
     exact: bool,
     vertices: &mut [f32],
-    pts: &mut [usize],
-    adj: &mut [usize],
-    nums: &mut [f32],
-    dead: &mut [u8],
+    ids: &mut [usize],
+    floats: &mut [f32],
+    deleted: &mut [u8],
     edges: &mut [Edge],
-    heap_face: &mut [usize],
-    heap_key: &mut [f32],
+    heap_ids: &mut [usize],
+    heap_keys: &mut [f32],
 ) -> Answer
-    ensures { λ r. ⌜ finalEdges r (now (vertices .exit)) (now (pts .exit)) (now (adj .exit)) (now (nums .exit)) (now (dead .exit)) (now (edges .exit)) (now («heap_face» .exit)) (now («heap_key» .exit)) ≡ ranEdges pos12 (shapeOf g1) (shapeOf g2) dir «max_dist» exact (now (vertices .entry)) (now (pts .entry)) (now (adj .entry)) (now (nums .entry)) (now (dead .entry)) (now (edges .entry)) (now («heap_face» .entry)) (now («heap_key» .entry)) ⌝ }
+    ensures { λ r. ⌜ Ends (onFirst (ran binary32 pos12 (shapeOf g1) (shapeOf g2) dir «max_dist» exact)) r
+        (λ m. recordsLent m vertices ids floats deleted edges «heap_ids» «heap_keys») ⌝ }
 {
-    let rows = edges::rows_of(edges);
-    let ran = run_rows(
+    let row = edges::row_of(edges);
+    let ran = run_row(
         pos12,
         g1,
         g2,
@@ -151,15 +143,14 @@ pub extern "C" fn separation_run(
         max_dist,
         exact,
         vertices,
-        pts,
-        adj,
-        nums,
-        dead,
-        rows,
-        heap_face,
-        heap_key,
+        ids,
+        floats,
+        deleted,
+        row,
+        heap_ids,
+        heap_keys,
     );
-    edges::publish(edges, ran.rows);
+    edges::publish(edges, ran.row);
     ran.answer
 }
 

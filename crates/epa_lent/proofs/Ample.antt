@@ -1,87 +1,68 @@
--- A store of 206 records suffices: `never-full`, of a run over at least so many records, says that it is not refused for a place among them. So the places beyond, which the run is not handed, are never
--- asked for: the run over records is the run over all their columns (`records-are-columns`). By the polytope's demand 3 and the agreement of runs. Assumes nothing.
+-- 206 RECORDS SUFFICE: the places beyond, which the run is not handed, are never asked for, so the run over a store's first records is the run over all their numbers (`first-is-all`); and a run over at
+-- least so many is never refused for a place among them (`never-full`). By the polytope's demand 3 and the agreement of runs. A list of records has room for as many edges as it has records
+-- (`room-of-pairs` of the crate `edges`). Any format. Assumes nothing.
 use mathlib.Core.Path.{_≡_, refl, sym, ap, _∙_}
 use mathlib.Core.Bool.{Bool, true, false}
-use mathlib.Core.List.{List, map}
-use Prim.Native.Nat.{ℕ, _≤_, min}
-use native.Mathlib.Nat.{le-min, le-of-eq, min-eq-left}
+use Prim.Native.Nat.{_≤_}
 use native.Mathlib.Omega.{arith}
-use lib.ListN.{length, take, length-take, length-map}
+use lib.ListN.{length-take}
 use lib.Dec.{leb}
+use lib.Ieee.{Format}
 use borrow.Author.Tests.{leb-true, leb-false}
 use Rattle.vector.specs.declared.pose.Pose.{Pose}
-use Rattle.shape.specs.declared.shape.Shape.{Shape}
-use Rattle.simplex.specs.declared.simplex.VoronoiSimplex.{VoronoiSimplex}
-use Rattle.polytope.specs.declared.types.End.{End}
-use Rattle.polytope.specs.declared.types.End.the-variants.{NoRoom as noRoom}
-use Rattle.polytope.specs.declared.types.Store.{Store}
-use Rattle.polytope.specs.declared.types.Store.the-variants.{Vertices as theVerts, Faces as theFaces, Edges as theEdges, Heap as theHeap}
-use Rattle.polytope.specs.Polytope.{State, ended, stateOf, noneYet, roomsOf}
-use Rattle.polytope.specs.Bounds.{Ample}
-use Rattle.polytope.specs.Same.{Equivalent, equal, enough}
-use Rattle.polytope.proofs.Demand3.{always-suffices}
+use Rattle.shape.specs.declared.support.Shape.{Shape}
+use Rattle.simplex.specs.declared.voronoi_simplex.VoronoiSimplex.{VoronoiSimplex}
+use Rattle.epa_polytope.specs.declared.types.End.{End}
+use Rattle.epa_polytope.specs.declared.types.End.the-variants.{NoRoom as noRoom}
+use Rattle.epa_polytope.specs.declared.types.Store.{Store}
+use Rattle.epa_polytope.specs.declared.types.Store.the-variants.{Vertices as theVertices, Faces as theFaces, Edges as theEdges, Heap as theHeap}
+use Rattle.epa_polytope.specs.Stores.{Lists, roomFor}
+use Rattle.epa_polytope.specs.Steps.{ended}
+use Rattle.epa_polytope.specs.Start.{worldOf}
+use Rattle.epa_polytope.specs.Bounds.{Ample}
+use Rattle.epa_polytope.specs.Same.{Equivalent, equal, enough}
+use Rattle.epa_polytope.proofs.Demand3.{always-suffices}
 use Rattle.epa.specs.declared.types.Answer.{Answer}
-use Rattle.epa.specs.Final.{Final}
-use Rattle.epa.proofs.Ample.{shapesOf, reported, ample-penetration}
+use Rattle.epa.specs.Final.{Final, penetration}
+use Rattle.epa.proofs.Ample.{reported, ample-penetration}
 use Rattle.epa.proofs.Agreement.{OneAnswer, penetrations-same}
-use Rattle.edges.specs.declared.Edge.{Edge}
-use Rattle.edges.specs.Edges.{facesOf, cornersOf}
-use Rattle.epa_lent.specs.Lent.{columned, penetrationRecords}
+use Rattle.epa_lent.specs.Lent.{firstEdges, onFirst}
 
--- as many numbers in a column as there are records, and at least 206 of the first 206 where there are so many
-column : (f : Edge → ℕ) (es : List Edge) → length (map f es) ≡ length es
-column f es = length-map es f
+module _ (l : Lists) where
+  many : 206 ≤ roomFor theEdges l → 206 ≤ roomFor theEdges (firstEdges l)
+  many h = omega (arith, h, length-take 412 (l .edges))
 
-first-many : (es : List Edge) → 206 ≤ length es → length (take 206 es) ≡ 206
-first-many es many = length-take 206 es ∙ min-eq-left many
+  few : leb 206 (roomFor theEdges l) ≡ false → roomFor theEdges (firstEdges l) ≡ roomFor theEdges l
+  few e = omega (arith, leb-false 206 (roomFor theEdges l) e, length-take 412 (l .edges))
 
-first-few : (es : List Edge) → length es ≤ 206 → length (take 206 es) ≡ length es
-first-few es few = length-take 206 es ∙ omega arith
+  -- the first 206 records are room as good as all
+  pub first-suffice : (y : Store) → Equivalent (firstEdges l) l y
+  first-suffice theVertices = equal refl
+  first-suffice theFaces = equal refl
+  first-suffice theHeap = equal refl
+  first-suffice theEdges = by (leb 206 (roomFor theEdges l)) refl
+    where
+      by : (b : Bool) → leb 206 (roomFor theEdges l) ≡ b → Equivalent (firstEdges l) l theEdges
+      by true e = let h = leb-true 206 (roomFor theEdges l) e in enough (many h) h
+      by false e = equal (few e)
 
-handed : (s : State) (es : List Edge) → 206 ≤ length es → 206 ≤ roomsOf (columned s (take 206 es)) .edges
-unfolding roomsOf
-handed s es many =
-    le-min (le-of-eq (sym (column (λ (e : Edge). e .face) (take 206 es) ∙ first-many es many))) (le-of-eq (sym (column (λ (e : Edge). e .corner) (take 206 es) ∙ first-many es many)))
+  pub ample-first : Ample l → Ample (firstEdges l)
+  ample-first room theVertices = room theVertices
+  ample-first room theFaces = room theFaces
+  ample-first room theEdges = many (room theEdges)
+  ample-first room theHeap = room theHeap
 
-module _ (m : Pose) (g1 g2 : Shape) (x : VoronoiSimplex) (s : State) (es : List Edge) where
-  pub never-full : 206 ≤ length es → penetrationRecords m g1 g2 x s es .answer .end ≡ noRoom theEdges → ⊥
-  never-full many e =
-      let z = reported m g1 g2 x (columned s (take 206 es)) in
-      always-suffices (shapesOf m g1 g2) x (columned s (take 206 es)) theEdges (handed s es many) (z .stores)
+module _ (f : Format) (m : Pose) (g1 g2 : Shape) (x : VoronoiSimplex) (l : Lists) where
+  pub never-full : 206 ≤ roomFor theEdges l → onFirst (penetration f m g1 g2 x) l .answer .end ≡ noRoom theEdges → ⊥
+  never-full h e =
+      let z = reported f m g1 g2 x (firstEdges l) in
+      always-suffices (worldOf f m g1 g2) x (firstEdges l) theEdges (many l h) (z .stores)
       (z .ran ∙ ap (λ (q : End). ended q (z .stores)) (ap (λ (q : Final Answer). q .answer .end) (sym (z .told)) ∙ e))
 
   -- LENT 105 VERTICES, 10,710 FACES, 206 RECORDS AND 10,710 HEAP ENTRIES, the answer is never a refusal for room
-  pub ample-records : Ample (roomsOf (columned s es)) → Ample (roomsOf (columned s (take 206 es)))
-  unfolding roomsOf
-  ample-records room =
-      let c = column (λ (e : Edge). e .face) es in
-      record { verts = room .verts; faces = room .faces; edges = handed s es (omega (arith, room .edges)); heap = room .heap }
+  pub ample-records : Ample l → (y : Store) → onFirst (penetration f m g1 g2 x) l .answer .end ≡ noRoom y → ⊥
+  ample-records room y e = ample-penetration f m g1 g2 x (firstEdges l) (ample-first l room) y e
 
-  pub ample-penetrationRecords : Ample (roomsOf (columned s es)) → (y : Store) → penetrationRecords m g1 g2 x s es .answer .end ≡ noRoom y → ⊥
-  ample-penetrationRecords room y e = ample-penetration m g1 g2 x (columned s (take 206 es)) (ample-records room) y e
-
-  -- the first 206 records are room as good as all
-  pub first-suffice : (y : Store) → Equivalent (roomsOf (columned s (take 206 es))) (roomsOf (columned s es)) y
-  unfolding roomsOf
-  first-suffice theVerts = equal refl
-  first-suffice theFaces = equal refl
-  first-suffice theHeap = equal refl
-  first-suffice theEdges = by (leb 206 (length es)) refl
-    where
-      f : length (facesOf es) ≡ length es
-      f = column (λ (e : Edge). e .face) es
-
-      c : length (cornersOf es) ≡ length es
-      c = column (λ (e : Edge). e .corner) es
-
-      by : (b : Bool) → leb 206 (length es) ≡ b → Equivalent (roomsOf (columned s (take 206 es))) (roomsOf (columned s es)) theEdges
-      by true e = let many = leb-true 206 (length es) e in enough (handed s es many) (le-min (omega (arith, f)) (omega (arith, c)))
-      by false e =
-          let few : length es ≤ 206 = omega (arith, leb-false 206 (length es) e) in
-          let f' : length (facesOf (take 206 es)) ≡ length (facesOf es) = column (λ (e : Edge). e .face) (take 206 es) ∙ first-few es few ∙ sym f in
-          let c' : length (cornersOf (take 206 es)) ≡ length (cornersOf es) = column (λ (e : Edge). e .corner) (take 206 es) ∙ first-few es few ∙ sym c in
-          equal (rw (f', c'))
-
-  -- THE RUN OVER RECORDS IS DOCUMENT 01'S, over all their columns: the same answer, refusals too, and the same content up to the counts
-  pub records-are-columns : OneAnswer m g1 g2 x (columned s (take 206 es)) (columned s es)
-  records-are-columns = penetrations-same m g1 g2 x (columned s (take 206 es)) (columned s es) first-suffice
+  -- THE RUN OVER RECORDS IS DOCUMENT 01'S, over all their numbers: the same answer, refusals too, and the same content up to the counts
+  pub first-is-all : OneAnswer f m g1 g2 x (firstEdges l) l
+  first-is-all = penetrations-same f m g1 g2 x (firstEdges l) l (first-suffice l)

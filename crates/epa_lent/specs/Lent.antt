@@ -1,51 +1,40 @@
--- What a whole run answers and leaves in the lent stores where the silhouette's store is one list of records (document 01, "The silhouette store is a list of records, each a face number and a corner"). Definitions only.
--- The run is that of the crate `epa`, on the columns of the store's first 206 records: a pass records at most 206 edges (document 01's demand 3).
-use mathlib.Core.List.{List}
+-- A run over lists that are lent with the silhouette's store as a list of records (document 01, "The silhouette store is a list of records, each a face number and a corner"). Definitions only.
+-- The store is seen as the list of its records' numbers. The run goes on the numbers of its first 206 records: a pass records at most 206 edges (document 01's demand 3).
+use mathlib.Core.List.{List, _++_}
 use Prim.Native.Nat.{ℕ}
-use lib.ListN.{take}
+use lib.ListN.{take, drop}
 use lib.Ieee.{Float}
-use Rattle.vector.specs.declared.pose.Pose.{Pose}
-use Rattle.shape.specs.declared.shape.Shape.{Shape}
-use Rattle.simplex.specs.declared.simplex.VoronoiSimplex.{VoronoiSimplex}
 use Rattle.edges.specs.declared.Edge.{Edge}
-use Rattle.edges.specs.Edges.{over, records, facesOf, cornersOf}
-use Rattle.polytope.specs.Polytope.{State, stateOf, noneYet}
-use Rattle.epa.specs.declared.types.Answer.{Answer}
-use Rattle.epa.specs.Final.{Final, penetration}
+use Rattle.edges.specs.declared.Row.{Row}
+use Rattle.edges.specs.Edges.{pairsOf, numbersOf}
+use Rattle.epa_polytope.specs.Stores.{Lists, withEdges}
+use Rattle.epa_polytope.specs.Contracts.{Lent, Moment, called, returned, when}
+use Rattle.epa.specs.Final.{Final, final, listsOf}
 
--- an answer, and the content of every store
-pub record FinalEdges (A : Type 0) : Type 0 where
-  pub answer : A
-  pub vertices : List Float
-  pub pts : List ℕ
-  pub adj : List ℕ
-  pub nums : List Float
-  pub dead : List ℕ
-  pub edges : List Edge
-  pub heapFaces : List ℕ
-  pub heapKeys : List Float
+-- ---- the lists
 
-abbrev pub finalEdges : {A : Type 0} → A → List Float → List ℕ → List ℕ → List Float → List ℕ → List Edge → List ℕ → List Float → FinalEdges A
-finalEdges x v p a n d es hf hk = record { answer = x; vertices = v; pts = p; adj = a; nums = n; dead = d; edges = es; heapFaces = hf; heapKeys = hk }
+-- as they are lent at a moment: six, and the records' numbers
+abbrev pub recordsLent : Moment → Lent Float → Lent ℕ → Lent Float → Lent ℕ → Lent Edge → Lent ℕ → Lent Float → Lists
+recordsLent m v i x d es hi hk = listsOf (when m v) (when m i) (when m x) (when m d) (pairsOf (when m es)) (when m hi) (when m hk)
 
--- the two columns' records stand over the store's first; the places beyond are as they were
-abbrev pub putBack : {A : Type 0} → List Edge → Final A → FinalEdges A
-putBack es x = finalEdges (x .answer) (x .vertices) (x .pts) (x .adj) (x .nums) (x .dead) (over (records (x .edgeFaces) (x .edgeCorners)) es) (x .heapFaces) (x .heapKeys)
+-- six, and the numbers of a row, which one function is handed and another comes back from it
+abbrev pub either : {X : Type 0} → Moment → X → X → X
+either called x y = x
+either returned x y = y
 
--- what is run on two columns, run on the first 206 records of a store
-abbrev pub onRecords : {A : Type 0} → (List ℕ → List ℕ → Final A) → List Edge → FinalEdges A
-onRecords run es = putBack es (run (facesOf (take 206 es)) (cornersOf (take 206 es)))
+abbrev pub rowLent : Moment → Lent Float → Lent ℕ → Lent Float → Lent ℕ → Row → Lent ℕ → Lent Float → Lists
+rowLent m v i x d r hi hk = listsOf (when m v) (when m i) (when m x) (when m d) (numbersOf r) (when m hi) (when m hk)
 
--- the run of two shapes, the second in a pose, from a simplex and eight lent lists
-abbrev pub penetrationEdges : Pose → Shape → Shape → VoronoiSimplex → List Float → List ℕ → List ℕ → List Float → List ℕ → List Edge → List ℕ → List Float → FinalEdges Answer
-penetrationEdges m g1 g2 x v p a n d es hf hk = onRecords (λ ef ec. penetration m g1 g2 x v p a n d ef ec hf hk) es
+-- ---- the run
 
--- lent stores with the columns of some records for the edges
-abbrev pub columned : State → List Edge → State
-columned s es =
-    stateOf (s .verts .cells) (s .faces .pts) (s .faces .adj) (s .faces .nums) (s .faces .dead) (facesOf es) (cornersOf es) (s .queue .faces) (s .queue .keys) noneYet
+-- the lists with the numbers of the first 206 records for the edges
+abbrev pub firstEdges : Lists → Lists
+firstEdges l = withEdges (take 412 (l .edges)) l
 
--- the run over lent stores, with records in place of their edges
-abbrev pub penetrationRecords : Pose → Shape → Shape → VoronoiSimplex → State → List Edge → FinalEdges Answer
-penetrationRecords m g1 g2 x s es =
-    penetrationEdges m g1 g2 x (s .verts .cells) (s .faces .pts) (s .faces .adj) (s .faces .nums) (s .faces .dead) es (s .queue .faces) (s .queue .keys)
+-- what a run leaves there, and the places beyond as they were
+abbrev pub beyond : {A : Type 0} → List ℕ → Final A → Final A
+beyond es x = final (x .answer) (withEdges (x .lists .edges ++ drop 412 es) (x .lists))
+
+-- WHAT IS RUN ON SEVEN LISTS, run on the first 206 records of a store
+abbrev pub onFirst : {A : Type 0} → (Lists → Final A) → Lists → Final A
+onFirst run l = beyond (l .edges) (run (firstEdges l))
