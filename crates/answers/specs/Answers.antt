@@ -4,7 +4,7 @@ use Prim.Native.Nat.{ℕ, _+_}
 use lib.Dec.{eqb}
 use Rattle.vector.specs.declared.vec3.Vec3.{Vec3}
 use Rattle.vector.specs.Vector.{zeroV}
-use Rattle.shape.specs.declared.shape.Shape.the-variants.{Ball, Cuboid, Capsule, Triangle}
+use Rattle.shape.specs.declared.support.Shape.the-variants.{Ball, Cuboid, Capsule, Triangle}
 use Rattle.lines.specs.declared.line.Counts as Told
 use Rattle.lines.specs.declared.line.Outcome.{Outcome}
 use Rattle.lines.specs.declared.line.Outcome.the-variants.{ClosestPoints, Proximity, NoIntersection, Penetration, NoAnswer, Panic, NoPlace}

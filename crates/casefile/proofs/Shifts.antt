@@ -8,6 +8,7 @@ use mathlib.Core.List.{List, [], _∷_, _++_}
 use lib.ListN.{length, drop}
 use lib.Seq.{drop-append-add}
 use lib.Dec.{ltb, leb, eqb}
+use lib.Ieee.{Format}
 use Rattle.casefile.specs.declared.numbers.NumberAnswer.{NumberAnswer}
 use Rattle.casefile.specs.declared.records.Case.{Case}
 use Rattle.casefile.specs.declared.records.CaseAnswer.{CaseAnswer}
@@ -132,8 +133,8 @@ module _ (front s : List ℕ) where
   moved-answer c (Bad p) = refl
   moved-answer c Ended = refl
 
-  pub shifted-case : (at : ℕ) → readCase whole (k + at) ≡ movedCase k (readCase s at)
-  unfolding readCase
-  shifted-case at =
-      let w = wordsAt s (At at) in
-      rw (moved-words (At at)) (moved-answer (caseOf (w .value)) (w .reading))
+pub shifted-case : (f : Format) (front s : List ℕ) (at : ℕ) → readCase f (front ++ s) (length front + at) ≡ movedCase (length front) (readCase f s at)
+unfolding readCase
+shifted-case f front s at =
+    let w = wordsAt s (At at) in
+    rw (moved-words front s (At at)) (moved-answer front s (caseOf f (w .value)) (w .reading))

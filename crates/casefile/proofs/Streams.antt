@@ -8,6 +8,7 @@ use native.Mathlib.Omega.{arith}
 use lib.ListN.{length, drop, length-drop}
 use lib.Seq.{drop-append-le}
 use lib.Dec.{ltb, leb, eqb}
+use lib.Ieee.{Format}
 use borrow.Author.Tests.{ltb-true, ltb-false, le-leb}
 use Rattle.casefile.specs.declared.numbers.NumberAnswer.{NumberAnswer}
 use Rattle.casefile.specs.declared.records.Case.{Case}
@@ -125,11 +126,11 @@ words-longer s t r h =
     rw (shape-longer s t r ea, shape-longer s t (a .reading) eb, numbers-longer 11 s t (b .reading) en, small-longer 1 s t (n .reading) h)
 
 -- what is decided stays decided, whatever bytes follow
-pub longer : (s t : List ℕ) (at : ℕ) → (readCase s at ≡ CaseAnswer.Ended → ⊥) → readCase (s ++ t) at ≡ readCase s at
+pub longer : (f : Format) (s t : List ℕ) (at : ℕ) → (readCase f s at ≡ CaseAnswer.Ended → ⊥) → readCase f (s ++ t) at ≡ readCase f s at
 unfolding readCase
-longer s t at h =
+longer f s t at h =
     let w = wordsAt s (At at) in
-    rw (words-longer s t (At at) (λ e. h (ap (answerOf (caseOf (w .value))) e)))
+    rw (words-longer s t (At at) (λ e. h (ap (answerOf (caseOf f (w .value))) e)))
 
 -- ---- enough bytes: numbers
 
@@ -245,8 +246,8 @@ no-answer c (Bad p) m u e = let z : _≡_ {A = ℕ} 0 1 = cc in omega arith
 no-answer c Ended m u e = u
 
 -- 160 bytes always decide
-pub enough : (s : List ℕ) (at : ℕ) → at + 160 ≤ length s → readCase s at ≡ CaseAnswer.Ended → ⊥
+pub enough : (f : Format) (s : List ℕ) (at : ℕ) → at + 160 ≤ length s → readCase f s at ≡ CaseAnswer.Ended → ⊥
 unfolding readCase
-enough s at h e =
+enough f s at h e =
     let w = wordsAt s (At at) in
-    no-answer (caseOf (w .value)) (w .reading) (at + 160) (words-enough s (At at) at h (omega arith)) e
+    no-answer (caseOf f (w .value)) (w .reading) (at + 160) (words-enough s (At at) at h (omega arith)) e

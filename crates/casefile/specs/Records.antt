@@ -1,18 +1,18 @@
 -- Records of a case file (document 01, "Case file and vote"): reading, number by number, what they stand for, and writing. Definitions only.
 -- A record is shape kind (0 ball, 1 cuboid, 2 capsule, 3 triangle) and its 1, 3, 7 or 9 numbers; the same for the second; quaternion; translation; start
 -- direction; largest distance; exact flag 0 or 1. Floats travel as their bits: of a NaN the word tells more than the float, so a record is read as words,
--- and the floats are made of them.
+-- and the floats are made of them, in a format f.
 use Prim.Native.Nat.{ℕ, zero, suc, _+_}
 use mathlib.Core.Bool.{Bool, cond}
 use mathlib.Core.List.{List, [], _∷_, _++_}
 use lib.ListN.{length, getD}
 use lib.Dec.{leb, eqb}
-use lib.Ieee.{Float, binary32, ofBits, toBits}
+use lib.Ieee.{Float, Format, ofBits, toBits}
 use Rattle.vector.specs.declared.vec3.Vec3.{Vec3}
 use Rattle.vector.specs.declared.pose.Pose.{Pose}
 use Rattle.vector.specs.Vector.{vec3}
-use Rattle.shape.specs.declared.shape.Shape.{Shape}
-use Rattle.shape.specs.declared.shape.Shape.the-variants.{Ball, Cuboid, Capsule, Triangle}
+use Rattle.shape.specs.declared.support.Shape.{Shape}
+use Rattle.shape.specs.declared.support.Shape.the-variants.{Ball, Cuboid, Capsule, Triangle}
 use Rattle.casefile.specs.Numbers.{decodeNumber, encode}
 use Rattle.casefile.specs.declared.numbers.NumberAnswer.{NumberAnswer}
 use Rattle.casefile.specs.declared.records.Case.{Case}
@@ -95,59 +95,60 @@ wordsAt s r =
 
 -- ---- what the words stand for
 
--- the float whose bits are the i-th word
-abbrev pub floatOf : List ℕ → ℕ → Float
-floatOf w i = ofBits binary32 (getD w i 0)
+module _ (f : Format) where
+  -- the float whose bits are the i-th word
+  abbrev pub floatOf : List ℕ → ℕ → Float
+  floatOf w i = ofBits f (getD w i 0)
 
--- three of them, from the i-th on
-abbrev pub vectorOf : List ℕ → ℕ → Vec3
-vectorOf w i = vec3 (floatOf w i) (floatOf w (i + 1)) (floatOf w (i + 2))
+  -- three of them, from the i-th on
+  abbrev pub vectorOf : List ℕ → ℕ → Vec3
+  vectorOf w i = vec3 (floatOf w i) (floatOf w (i + 1)) (floatOf w (i + 2))
 
-unfoldable pub shapeIn : ℕ → List ℕ → Shape
-shapeIn zero w = Ball (floatOf w 0)
-shapeIn (suc zero) w = Cuboid (floatOf w 0) (floatOf w 1) (floatOf w 2)
-shapeIn (suc (suc zero)) w = Capsule (floatOf w 0) (floatOf w 1) (floatOf w 2) (floatOf w 3) (floatOf w 4) (floatOf w 5) (floatOf w 6)
-shapeIn (suc (suc (suc k))) w =
-    Triangle (floatOf w 0) (floatOf w 1) (floatOf w 2) (floatOf w 3) (floatOf w 4) (floatOf w 5) (floatOf w 6) (floatOf w 7) (floatOf w 8)
+  unfoldable pub shapeIn : ℕ → List ℕ → Shape
+  shapeIn zero w = Ball (floatOf w 0)
+  shapeIn (suc zero) w = Cuboid (floatOf w 0) (floatOf w 1) (floatOf w 2)
+  shapeIn (suc (suc zero)) w = Capsule (floatOf w 0) (floatOf w 1) (floatOf w 2) (floatOf w 3) (floatOf w 4) (floatOf w 5) (floatOf w 6)
+  shapeIn (suc (suc (suc k))) w =
+      Triangle (floatOf w 0) (floatOf w 1) (floatOf w 2) (floatOf w 3) (floatOf w 4) (floatOf w 5) (floatOf w 6) (floatOf w 7) (floatOf w 8)
 
-abbrev pub shapeOf : ShapeWords → Shape
-shapeOf w = shapeIn (w .kind) (w .numbers)
+  abbrev pub shapeOf : ShapeWords → Shape
+  shapeOf w = shapeIn (w .kind) (w .numbers)
 
-unfoldable pub poseOf : List ℕ → Pose
-poseOf w =
-    record {
-      rotation = record { x = floatOf w 0; y = floatOf w 1; z = floatOf w 2; w = floatOf w 3 };
-      translation = vectorOf w 4;
-    }
+  unfoldable pub poseOf : List ℕ → Pose
+  poseOf w =
+      record {
+        rotation = record { x = floatOf w 0; y = floatOf w 1; z = floatOf w 2; w = floatOf w 3 };
+        translation = vectorOf w 4;
+      }
 
-unfoldable pub caseOf : Words → Case
-caseOf w =
-    record {
-      g1 = shapeOf (w .first);
-      g2 = shapeOf (w .second);
-      pos12 = poseOf (w .numbers);
-      dir = vectorOf (w .numbers) 7;
-      «max_dist» = floatOf (w .numbers) 10;
-      exact = eqb (w .flag) 1;
-    }
+  unfoldable pub caseOf : Words → Case
+  caseOf w =
+      record {
+        g1 = shapeOf (w .first);
+        g2 = shapeOf (w .second);
+        pos12 = poseOf (w .numbers);
+        dir = vectorOf (w .numbers) 7;
+        «max_dist» = floatOf (w .numbers) 10;
+        exact = eqb (w .flag) 1;
+      }
 
--- ---- for the private functions: some words read, and what they stand for
+  -- ---- for the private functions: some words read, and what they stand for
 
-unfoldable pub floatAt : List ℕ → Reading → Got Float
-floatAt s r = let n = numbersAt 1 s r in got (floatOf (n .value) 0) (n .reading)
+  unfoldable pub floatAt : List ℕ → Reading → Got Float
+  floatAt s r = let n = numbersAt 1 s r in got (floatOf (n .value) 0) (n .reading)
 
-unfoldable pub vectorAt : List ℕ → Reading → Got Vec3
-vectorAt s r = let n = numbersAt 3 s r in got (vectorOf (n .value) 0) (n .reading)
+  unfoldable pub vectorAt : List ℕ → Reading → Got Vec3
+  vectorAt s r = let n = numbersAt 3 s r in got (vectorOf (n .value) 0) (n .reading)
 
--- a shape of the kind k
-unfoldable pub kindAt : ℕ → List ℕ → Reading → Got Shape
-kindAt k s r = let n = numbersAt (sizeOf k) s r in got (shapeIn k (n .value)) (n .reading)
+  -- a shape of the kind k
+  unfoldable pub kindAt : ℕ → List ℕ → Reading → Got Shape
+  kindAt k s r = let n = numbersAt (sizeOf k) s r in got (shapeIn k (n .value)) (n .reading)
 
-unfoldable pub shapeAt : List ℕ → Reading → Got Shape
-shapeAt s r = let w = shapeWordsAt s r in got (shapeOf (w .value)) (w .reading)
+  unfoldable pub shapeAt : List ℕ → Reading → Got Shape
+  shapeAt s r = let w = shapeWordsAt s r in got (shapeOf (w .value)) (w .reading)
 
-unfoldable pub poseAt : List ℕ → Reading → Got Pose
-poseAt s r = let n = numbersAt 7 s r in got (poseOf (n .value)) (n .reading)
+  unfoldable pub poseAt : List ℕ → Reading → Got Pose
+  poseAt s r = let n = numbersAt 7 s r in got (poseOf (n .value)) (n .reading)
 
 -- ---- the record that starts at a place
 
@@ -156,8 +157,8 @@ answerOf c (At next) = CaseAnswer.Whole c next
 answerOf c (Bad p) = CaseAnswer.Malformed p
 answerOf c Ended = CaseAnswer.Ended
 
-unfoldable pub readCase : List ℕ → ℕ → CaseAnswer
-readCase s at = let w = wordsAt s (At at) in answerOf (caseOf (w .value)) (w .reading)
+unfoldable pub readCase : Format → List ℕ → ℕ → CaseAnswer
+readCase f s at = let w = wordsAt s (At at) in answerOf (caseOf f (w .value)) (w .reading)
 
 -- document 01's number of what stands at a place of s, 0 for a record or refusal 4, and its value: the place after the record; of the refusal the offset, the length of s where that ends inside
 abbrev pub caseNumber : CaseAnswer → ℕ
@@ -186,32 +187,33 @@ numbersOf w = shapeNumbers (w .first) ++ shapeNumbers (w .second) ++ w .numbers 
 unfoldable pub encodeCase : Words → List ℕ
 encodeCase w = encodeAll (numbersOf w)
 
--- a case's words; of a NaN 7FC00000
-abbrev pub bitsOf : Float → ℕ
-bitsOf x = toBits binary32 x
-
-abbrev pub vectorWords : Vec3 → List ℕ
-vectorWords v = bitsOf (v .x) ∷ bitsOf (v .y) ∷ bitsOf (v .z) ∷ []
-
-unfoldable pub shapeWords : Shape → ShapeWords
-shapeWords (Ball r) = record { kind = 0; numbers = bitsOf r ∷ [] }
-shapeWords (Cuboid x y z) = record { kind = 1; numbers = bitsOf x ∷ bitsOf y ∷ bitsOf z ∷ [] }
-shapeWords (Capsule ax ay az bx by bz r) =
-    record { kind = 2; numbers = bitsOf ax ∷ bitsOf ay ∷ bitsOf az ∷ bitsOf bx ∷ bitsOf by ∷ bitsOf bz ∷ bitsOf r ∷ [] }
-shapeWords (Triangle ax ay az bx by bz cx cy cz) =
-    record { kind = 3; numbers = bitsOf ax ∷ bitsOf ay ∷ bitsOf az ∷ bitsOf bx ∷ bitsOf by ∷ bitsOf bz ∷ bitsOf cx ∷ bitsOf cy ∷ bitsOf cz ∷ [] }
-
-abbrev pub poseWords : Pose → List ℕ
-poseWords p = bitsOf (p .rotation .x) ∷ bitsOf (p .rotation .y) ∷ bitsOf (p .rotation .z) ∷ bitsOf (p .rotation .w) ∷ vectorWords (p .translation)
-
 abbrev pub flagOf : Bool → ℕ
 flagOf exact = cond exact 1 0
 
-unfoldable pub wordsOf : Case → Words
-wordsOf c =
-    record {
-      first = shapeWords (c .g1);
-      second = shapeWords (c .g2);
-      numbers = poseWords (c .pos12) ++ vectorWords (c .dir) ++ bitsOf (c .«max_dist») ∷ [];
-      flag = flagOf (c .exact);
-    }
+module _ (f : Format) where
+  -- a case's words; every NaN is one, of f32 7FC00000
+  abbrev pub bitsOf : Float → ℕ
+  bitsOf x = toBits f x
+
+  abbrev pub vectorWords : Vec3 → List ℕ
+  vectorWords v = bitsOf (v .x) ∷ bitsOf (v .y) ∷ bitsOf (v .z) ∷ []
+
+  unfoldable pub shapeWords : Shape → ShapeWords
+  shapeWords (Ball r) = record { kind = 0; numbers = bitsOf r ∷ [] }
+  shapeWords (Cuboid x y z) = record { kind = 1; numbers = bitsOf x ∷ bitsOf y ∷ bitsOf z ∷ [] }
+  shapeWords (Capsule ax ay az bx by bz r) =
+      record { kind = 2; numbers = bitsOf ax ∷ bitsOf ay ∷ bitsOf az ∷ bitsOf bx ∷ bitsOf by ∷ bitsOf bz ∷ bitsOf r ∷ [] }
+  shapeWords (Triangle ax ay az bx by bz cx cy cz) =
+      record { kind = 3; numbers = bitsOf ax ∷ bitsOf ay ∷ bitsOf az ∷ bitsOf bx ∷ bitsOf by ∷ bitsOf bz ∷ bitsOf cx ∷ bitsOf cy ∷ bitsOf cz ∷ [] }
+
+  abbrev pub poseWords : Pose → List ℕ
+  poseWords p = bitsOf (p .rotation .x) ∷ bitsOf (p .rotation .y) ∷ bitsOf (p .rotation .z) ∷ bitsOf (p .rotation .w) ∷ vectorWords (p .translation)
+
+  unfoldable pub wordsOf : Case → Words
+  wordsOf c =
+      record {
+        first = shapeWords (c .g1);
+        second = shapeWords (c .g2);
+        numbers = poseWords (c .pos12) ++ vectorWords (c .dir) ++ bitsOf (c .«max_dist») ∷ [];
+        flag = flagOf (c .exact);
+      }

@@ -1,6 +1,7 @@
 // Records of a case file: a record's numbers are read one after the other, and what is refused first stays refused,
 // so that each step takes where the one before it stands.
 ghost use mathlib.Core.Path.{_≡_};
+ghost use lib.Ieee.{binary32};
 ghost use Rattle.casefile.specs.Records.{got, numberAt, spoiled as spoiledOf, smallAt, floatAt, vectorAt, kindAt, shapeAt, poseAt, readCase};
 use crate::numbers;
 use crate::numbers::NumberAnswer;
@@ -127,7 +128,7 @@ fn small_at(bytes: &[u8], top: u32, reading: Reading) -> GotNumber
 // ---- floats
 
 fn float_at(bytes: &[u8], reading: Reading) -> GotFloat
-    ensures { λ r. ⌜ got (r .value) (r .reading) ≡ floatAt (now (bytes .entry)) reading ⌝ }
+    ensures { λ r. ⌜ got (r .value) (r .reading) ≡ floatAt binary32 (now (bytes .entry)) reading ⌝ }
 {
     let number = number_at(bytes, reading);
     let after = number.reading;
@@ -138,7 +139,7 @@ fn float_at(bytes: &[u8], reading: Reading) -> GotFloat
 }
 
 fn vector_at(bytes: &[u8], reading: Reading) -> GotVector
-    ensures { λ r. ⌜ got (r .value) (r .reading) ≡ vectorAt (now (bytes .entry)) reading ⌝ }
+    ensures { λ r. ⌜ got (r .value) (r .reading) ≡ vectorAt binary32 (now (bytes .entry)) reading ⌝ }
 {
     let x = float_at(bytes, reading);
     let after_x = x.reading;
@@ -155,7 +156,7 @@ fn vector_at(bytes: &[u8], reading: Reading) -> GotVector
 // ---- shapes
 
 fn ball_at(bytes: &[u8], reading: Reading) -> GotShape
-    ensures { λ r. ⌜ got (r .value) (r .reading) ≡ kindAt 0 (now (bytes .entry)) reading ⌝ }
+    ensures { λ r. ⌜ got (r .value) (r .reading) ≡ kindAt binary32 0 (now (bytes .entry)) reading ⌝ }
 {
     let radius = float_at(bytes, reading);
     let after = radius.reading;
@@ -166,7 +167,7 @@ fn ball_at(bytes: &[u8], reading: Reading) -> GotShape
 }
 
 fn cuboid_at(bytes: &[u8], reading: Reading) -> GotShape
-    ensures { λ r. ⌜ got (r .value) (r .reading) ≡ kindAt 1 (now (bytes .entry)) reading ⌝ }
+    ensures { λ r. ⌜ got (r .value) (r .reading) ≡ kindAt binary32 1 (now (bytes .entry)) reading ⌝ }
 {
     let half_extents = vector_at(bytes, reading);
     let after = half_extents.reading;
@@ -178,7 +179,7 @@ fn cuboid_at(bytes: &[u8], reading: Reading) -> GotShape
 }
 
 fn capsule_at(bytes: &[u8], reading: Reading) -> GotShape
-    ensures { λ r. ⌜ got (r .value) (r .reading) ≡ kindAt 2 (now (bytes .entry)) reading ⌝ }
+    ensures { λ r. ⌜ got (r .value) (r .reading) ≡ kindAt binary32 2 (now (bytes .entry)) reading ⌝ }
 {
     let first = vector_at(bytes, reading);
     let after_first = first.reading;
@@ -195,7 +196,7 @@ fn capsule_at(bytes: &[u8], reading: Reading) -> GotShape
 }
 
 fn triangle_at(bytes: &[u8], reading: Reading) -> GotShape
-    ensures { λ r. ⌜ got (r .value) (r .reading) ≡ kindAt 3 (now (bytes .entry)) reading ⌝ }
+    ensures { λ r. ⌜ got (r .value) (r .reading) ≡ kindAt binary32 3 (now (bytes .entry)) reading ⌝ }
 {
     let first = vector_at(bytes, reading);
     let after_first = first.reading;
@@ -213,7 +214,7 @@ fn triangle_at(bytes: &[u8], reading: Reading) -> GotShape
 }
 
 fn shape_at(bytes: &[u8], reading: Reading) -> GotShape
-    ensures { λ r. ⌜ got (r .value) (r .reading) ≡ shapeAt (now (bytes .entry)) reading ⌝ }
+    ensures { λ r. ⌜ got (r .value) (r .reading) ≡ shapeAt binary32 (now (bytes .entry)) reading ⌝ }
 {
     let number = small_at(bytes, 3, reading);
     let kind = number.value;
@@ -233,7 +234,7 @@ fn shape_at(bytes: &[u8], reading: Reading) -> GotShape
 // ---- records
 
 fn pose_at(bytes: &[u8], reading: Reading) -> GotPose
-    ensures { λ r. ⌜ got (r .value) (r .reading) ≡ poseAt (now (bytes .entry)) reading ⌝ }
+    ensures { λ r. ⌜ got (r .value) (r .reading) ≡ poseAt binary32 (now (bytes .entry)) reading ⌝ }
 {
     let axis = vector_at(bytes, reading);
     let after_axis = axis.reading;
@@ -261,7 +262,7 @@ fn pose_at(bytes: &[u8], reading: Reading) -> GotPose
 
 // The record that starts at `at`: its numbers are at most 32, in at most 160 bytes.
 pub fn read_case(bytes: &[u8], at: usize) -> CaseAnswer
-    ensures { λ r. ⌜ r ≡ readCase (now (bytes .entry)) at ⌝ }
+    ensures { λ r. ⌜ r ≡ readCase binary32 (now (bytes .entry)) at ⌝ }
 {
     let first = shape_at(bytes, Reading::At(at));
     let after_first = first.reading;

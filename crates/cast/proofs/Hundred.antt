@@ -7,7 +7,7 @@ use native.Mathlib.Omega.{arith}
 use borrow.Author.Tests.{eqb-true, eqb-false}
 use lib.Dec.{eqb}
 use lib.Ieee.{Format}
-use Rattle.simplex.specs.declared.simplex.VoronoiSimplex.{VoronoiSimplex}
+use Rattle.simplex.specs.declared.voronoi_simplex.VoronoiSimplex.{VoronoiSimplex}
 use Rattle.cast.specs.declared.rounds.Cast.{Cast}
 use Rattle.cast.specs.declared.rounds.Cast.the-variants.{Miss, Refused}
 use Rattle.cast.specs.declared.rounds.Round.{Round}

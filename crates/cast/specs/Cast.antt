@@ -6,7 +6,7 @@ use Prim.Native.Nat.{ℕ, zero, suc}
 use mathlib.Core.Bool.{Bool, false, not, _&&_, _||_, cond}
 use lib.Dec.{eqb}
 use lib.Ieee as Ieee
-use lib.Ieee.{Float, Format, binary32, lt, le}
+use lib.Ieee.{Float, Format, lt, le}
 use lib.Ieee.Scale.{finite}
 use Rattle.number.specs.Constants.{epsTol, largest}
 use Rattle.number.specs.Root.{root}
@@ -16,7 +16,7 @@ use Rattle.vector.specs.Vector.{zeroF, oneF, zeroV, negV, addV, subV, scaleV, d
 use Rattle.shape.specs.declared.vertex.Vertex.{Vertex}
 use Rattle.shape.specs.Vertex.{singlePoint, translateVertex}
 use Rattle.shape.specs.Support.{fromShapes}
-use Rattle.simplex.specs.declared.simplex.VoronoiSimplex.{VoronoiSimplex}
+use Rattle.simplex.specs.declared.voronoi_simplex.VoronoiSimplex.{VoronoiSimplex}
 use Rattle.simplex.specs.declared.operations.Outcome.{Outcome}
 use Rattle.simplex.specs.declared.operations.Outcome.the-variants as Moved
 use Rattle.simplex.specs.declared.operations.Answer.{Answer}
@@ -72,9 +72,9 @@ pub record Search : Type 0 where
   pub rayLength : Float
   pub epsRel : Float
 
-abbrev pub searchOf : Query → Search
-searchOf q =
-    record { supp = fromShapes binary32 (q .pos12) (q .g1) (q .g2); ray = q .ray; maxTime = q .«max_time_of_impact»; rayLength = q .«ray_length»; epsRel = q .«eps_rel» }
+abbrev pub searchOf : Format → Query → Search
+searchOf f q =
+    record { supp = fromShapes f (q .pos12) (q .g1) (q .g2); ray = q .ray; maxTime = q .«max_time_of_impact»; rayLength = q .«ray_length»; epsRel = q .«eps_rel» }
 
 -- ---- a part of the loop's body ends the cast, or goes on
 abbrev pub onwardWith : VoronoiSimplex → Round → Turn

@@ -11,7 +11,7 @@ pub struct Ray {
 }
 
 // The Rust's `Option<Real>`.
-pub(crate) enum MaybeTime {
+pub enum MaybeTime {
     Some(f32),
     None,
 }

@@ -30,7 +30,7 @@ pub enum Cast {
 }
 
 // What a cast is asked, and what it computes once.
-struct Query {
+pub struct Query {
     pos12: Pose,
     g1: Shape,
     g2: Shape,
@@ -41,7 +41,7 @@ struct Query {
 }
 
 // What the Rust's loop carries from round to round, besides the simplex and the number of rounds.
-struct Round {
+pub struct Round {
     ltoi: f32,
     curr_ray: Ray,
     ldir: Vec3,
@@ -50,12 +50,12 @@ struct Round {
     last_chance: bool,
 }
 
-enum Next {
+pub enum Next {
     Onward(Round),
     Ended(Cast),
 }
 
-struct Turn {
+pub struct Turn {
     simplex: VoronoiSimplex,
     next: Next,
 }
@@ -80,7 +80,7 @@ fn ended(simplex: VoronoiSimplex, cast: Cast) -> Turn
 
 // The impact at the lower bound.
 fn impact_at(q: Query, r: Round) -> Cast
-    ensures { λ c. ⌜ c ≡ impact binary32 (searchOf q) r ⌝ }
+    ensures { λ c. ⌜ c ≡ impact binary32 (searchOf binary32 q) r ⌝ }
 {
     let ldir = r.ldir;
     Cast::Impact(r.ltoi / q.ray_length, ldir)
@@ -88,14 +88,14 @@ fn impact_at(q: Query, r: Round) -> Cast
 
 // Whether a lower bound is past the largest time. It is divided: a product may overflow.
 fn is_beyond(q: Query, ltoi: f32) -> bool
-    ensures { λ b. ⌜ b ≡ beyond binary32 (searchOf q) ltoi ⌝ }
+    ensures { λ b. ⌜ b ≡ beyond binary32 (searchOf binary32 q) ltoi ⌝ }
 {
     ltoi / q.ray_length > q.max_time_of_impact
 }
 
 // Where the upper bound does not fall, the projection stands in for the support point.
 fn support_point_of(q: Query, r: Round, dir: Vec3, stuck: bool) -> Vertex
-    ensures { λ v. ⌜ v ≡ supportPoint binary32 (searchOf q) r dir stuck ⌝ }
+    ensures { λ v. ⌜ v ≡ supportPoint binary32 (searchOf binary32 q) r dir stuck ⌝ }
 {
     if stuck {
         let proj = r.proj;
@@ -110,7 +110,7 @@ fn support_point_of(q: Query, r: Round, dir: Vec3, stuck: bool) -> Vertex
 
 // The lower bound, refined by the separation of the witnesses along the ray.
 fn witnessed_at(q: Query, r: Round, witness1: Vec3, witness2: Vec3) -> Cast
-    ensures { λ c. ⌜ c ≡ witnessed binary32 (searchOf q) r witness1 witness2 ⌝ }
+    ensures { λ c. ⌜ c ≡ witnessed binary32 (searchOf binary32 q) r witness1 witness2 ⌝ }
 {
     let ray = q.ray;
     let curr_ray = r.curr_ray;
@@ -129,7 +129,7 @@ fn witnessed_at(q: Query, r: Round, witness1: Vec3, witness2: Vec3) -> Cast
 
 // The last-chance path: the impact is accepted, at the refined bound.
 fn last_chance_of(q: Query, simplex: VoronoiSimplex, r: Round) -> Cast
-    ensures { λ c. ⌜ c ≡ lastChance binary32 (searchOf q) simplex r ⌝ }
+    ensures { λ c. ⌜ c ≡ lastChance binary32 (searchOf binary32 q) simplex r ⌝ }
 {
     match result(simplex, simplex.dim == 3) {
         Witnesses::At(witness1, witness2) => witnessed_at(q, r, witness1, witness2),
@@ -139,7 +139,7 @@ fn last_chance_of(q: Query, simplex: VoronoiSimplex, r: Round) -> Cast
 
 // A new lower bound: the ray's origin moves, and the simplex with it.
 fn lowered_turn(q: Query, simplex: VoronoiSimplex, r: Round, dir: Vec3, t: f32) -> Turn
-    ensures { λ u. ⌜ u ≡ lowered binary32 (searchOf q) simplex r dir t ⌝ }
+    ensures { λ u. ⌜ u ≡ lowered binary32 (searchOf binary32 q) simplex r dir t ⌝ }
 {
     let ltoi = r.ltoi + t;
     if is_beyond(q, ltoi) {
@@ -177,7 +177,7 @@ fn clipped_turn(
     dir: Vec3,
     support_point: Vertex,
 ) -> Turn
-    ensures { λ u. ⌜ u ≡ clipped binary32 (searchOf q) simplex r dir «support_point» ⌝ }
+    ensures { λ u. ⌜ u ≡ clipped binary32 (searchOf binary32 q) simplex r dir «support_point» ⌝ }
 {
     let curr_ray = r.curr_ray;
     let point = support_point.point;
@@ -208,7 +208,7 @@ fn min_bound_of(r: Round, dir: Vec3, support_point: Vertex) -> f32
 
 // What is decided before the support point is added. The Rust asserts that the lower bound is finite.
 fn bounded_turn(q: Query, simplex: VoronoiSimplex, r: Round, min_bound: f32) -> Turn
-    ensures { λ u. ⌜ u ≡ bounded binary32 (searchOf q) simplex r «min_bound» ⌝ }
+    ensures { λ u. ⌜ u ≡ bounded binary32 (searchOf binary32 q) simplex r «min_bound» ⌝ }
 {
     if r.last_chance {
         return ended(simplex, Cast::Miss);
@@ -240,7 +240,7 @@ fn added_turn(simplex: VoronoiSimplex, r: Round, support_point: Vertex) -> Turn
 
 // The origin is inside of the difference, unless the lower bound says that it is not.
 fn solid_at(q: Query, r: Round, min_bound: f32, support_point: Vertex) -> Cast
-    ensures { λ c. ⌜ c ≡ solid binary32 (searchOf q) r «min_bound» «support_point» ⌝ }
+    ensures { λ c. ⌜ c ≡ solid binary32 (searchOf binary32 q) r «min_bound» «support_point» ⌝ }
 {
     let curr_ray = r.curr_ray;
     let point = support_point.point;
@@ -260,7 +260,7 @@ fn reduced_turn(
     min_bound: f32,
     support_point: Vertex,
 ) -> Turn
-    ensures { λ u. ⌜ u ≡ reduced binary32 (searchOf q) simplex r «min_bound» «support_point» ⌝ }
+    ensures { λ u. ⌜ u ≡ reduced binary32 (searchOf binary32 q) simplex r «min_bound» «support_point» ⌝ }
 {
     let found = reduction::project_origin(simplex);
     let Projected::At(proj, location) = found else {
@@ -284,7 +284,7 @@ fn probed_turn(
     dir: Vec3,
     support_point: Vertex,
 ) -> Turn
-    ensures { λ u. ⌜ u ≡ probed binary32 (searchOf q) simplex r dir «support_point» ⌝ }
+    ensures { λ u. ⌜ u ≡ probed binary32 (searchOf binary32 q) simplex r dir «support_point» ⌝ }
 {
     if r.last_chance & (r.ltoi > 0.0) {
         return ended(simplex, last_chance_of(q, simplex, r));
@@ -313,7 +313,7 @@ fn probed_turn(
 
 // One turn of the Rust's loop. A NaN distance is not above the tolerance: an impact.
 fn turn_of(q: Query, simplex: VoronoiSimplex, r: Round) -> Turn
-    ensures { λ u. ⌜ u ≡ turnOf binary32 (searchOf q) simplex r ⌝ }
+    ensures { λ u. ⌜ u ≡ turnOf binary32 (searchOf binary32 q) simplex r ⌝ }
 {
     let proj = r.proj;
     let unit = proj.neg().normalize_and_length();
@@ -332,7 +332,7 @@ fn turn_of(q: Query, simplex: VoronoiSimplex, r: Round) -> Turn
 
 // The rounds: the hundredth that does not end the cast is a miss.
 fn run_of(q: Query, simplex: VoronoiSimplex, start: Round) -> Cast
-    ensures { λ c. ⌜ c ≡ runOf binary32 (searchOf q) 100 simplex start ⌝ }
+    ensures { λ c. ⌜ c ≡ runOf binary32 (searchOf binary32 q) 100 simplex start ⌝ }
 {
     let mut present = simplex;
     let mut r = start;
@@ -358,7 +358,7 @@ fn run_of(q: Query, simplex: VoronoiSimplex, start: Round) -> Cast
 // What stands before the loop: a new simplex of the support point against the ray, and its projection. `reset` takes a new simplex
 // always (`reset-done` of proofs/Start.antt), so its outcome is not looked at.
 fn start_of(q: Query) -> Turn
-    ensures { λ u. ⌜ u ≡ startOf binary32 (searchOf q) ⌝ }
+    ensures { λ u. ⌜ u ≡ startOf binary32 (searchOf binary32 q) ⌝ }
 {
     let ray = q.ray;
     let origin = ray.origin;

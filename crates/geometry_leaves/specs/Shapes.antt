@@ -1,8 +1,8 @@
 -- How a shape goes over to C. Definitions only.
 use mathlib.Core.Bool.{cond}
 use lib.Dec.{eqb}
-use Rattle.shape.specs.declared.shape.Shape.{Shape}
-use Rattle.shape.specs.declared.shape.Shape.the-variants.{Ball, Cuboid, Capsule, Triangle}
+use Rattle.shape.specs.declared.support.Shape.{Shape}
+use Rattle.shape.specs.declared.support.Shape.the-variants.{Ball, Cuboid, Capsule, Triangle}
 use Rattle.geometry_leaves.specs.declared.shapes.RawShape.{RawShape}
 
 -- document 01's kinds: 0 a ball, 1 a cuboid, 2 a capsule, and here any other a triangle

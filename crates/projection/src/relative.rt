@@ -24,7 +24,7 @@ pub fn relative_eq(x: f32, y: f32, epsilon: f32, max_relative: f32) -> bool
 fn is_infinite(x: f32) -> bool
     ensures { λ r. ⌜ r ≡ isInfinite x ⌝ }
 {
-    let infinity = f32::from_bits(0x7f80_0000);
+    let infinity = number::infinity();
     (x == infinity) | (x == -infinity)
 }
 

@@ -37,7 +37,7 @@ pub enum BarycentricCoordinates {
 }
 
 // The edges, and the way to `pt` from each corner.
-struct Differences {
+pub struct Differences {
     ab: Vec3,
     ac: Vec3,
     bc: Vec3,
@@ -46,7 +46,7 @@ struct Differences {
     cp: Vec3,
 }
 
-struct Dots {
+pub struct Dots {
     ab_ap: f32,
     ac_ap: f32,
     ab_bp: f32,
@@ -56,13 +56,13 @@ struct Dots {
 }
 
 // What a corner's region gives, if one holds the point.
-enum MaybeProjection {
+pub enum MaybeProjection {
     Some(TriangleProjection),
     None,
 }
 
 // The edge whose region holds the point; or the face's side, and its weights before the division.
-enum ProjectionInfo {
+pub enum ProjectionInfo {
     OnAB,
     OnAC,
     OnBC,

@@ -17,7 +17,7 @@ use Rattle.tetrahedron.specs.declared.TetrahedronPointLocation.{TetrahedronPoin
 use Rattle.tetrahedron.specs.declared.TetrahedronProjection.{TetrahedronProjection}
 use Rattle.projection.proofs.Locations.{SegmentHas, TriangleHas, SegmentFits, segment-fits, triangle-fits}
 use Rattle.tetrahedron.proofs.Locations.{TetrahedronHas, TetrahedronFits, tetrahedron-fits}
-use Rattle.simplex.specs.declared.simplex.VoronoiSimplex.{VoronoiSimplex}
+use Rattle.simplex.specs.declared.voronoi_simplex.VoronoiSimplex.{VoronoiSimplex}
 use Rattle.simplex.specs.Simplex.{isSimplex}
 use Rattle.simplex.proofs.Laws.{small}
 use Rattle.reduction.specs.declared.location.Location.{Location}

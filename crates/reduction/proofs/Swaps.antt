@@ -8,7 +8,7 @@ use native.Mathlib.Omega.{arith}
 use borrow.Author.Tests.{lt-ltb, le-leb}
 use lib.Dec.{ltb}
 use lib.ListN.{set, getD}
-use Rattle.simplex.specs.declared.simplex.VoronoiSimplex.{VoronoiSimplex}
+use Rattle.simplex.specs.declared.voronoi_simplex.VoronoiSimplex.{VoronoiSimplex}
 use Rattle.simplex.specs.declared.operations.Outcome.the-variants.{Done}
 use Rattle.simplex.specs.Simplex.{isSimplex, swapIn}
 use Rattle.simplex.specs.Operations.{alteredOr, swapSimplex}

@@ -22,7 +22,7 @@ use Rattle.projection.specs.Values.{Values}
 use Rattle.projection.specs.Segment.{projectSegment}
 use Rattle.projection.specs.Triangle.{projectTriangle}
 use Rattle.tetrahedron.specs.Tetrahedron.{projectTetrahedron}
-use Rattle.simplex.specs.declared.simplex.VoronoiSimplex.{VoronoiSimplex}
+use Rattle.simplex.specs.declared.voronoi_simplex.VoronoiSimplex.{VoronoiSimplex}
 use Rattle.simplex.specs.Simplex.{simplexOf, isSimplex, vertexAt, swapIn}
 use Rattle.reduction.specs.declared.location.Location.{Location}
 use Rattle.reduction.specs.declared.location.Location.the-variants.{OnVertex, OnEdge, OnFace, OnSolid}

@@ -8,8 +8,8 @@ use Rattle.vector.specs.declared.vec3.Vec3.{Vec3}
 use Rattle.vector.specs.declared.pose.Pose.{Pose}
 use Rattle.vector.specs.Vector.{vec3, yV, negV, addV, scaleV, dotV, normalizeV, normalizeOrV}
 use Rattle.vector.specs.Pose.{transformPoint, inverseTransformVector}
-use Rattle.shape.specs.declared.shape.Shape.{Shape}
-use Rattle.shape.specs.declared.shape.Shape.the-variants.{Ball, Cuboid, Capsule, Triangle}
+use Rattle.shape.specs.declared.support.Shape.{Shape}
+use Rattle.shape.specs.declared.support.Shape.the-variants.{Ball, Cuboid, Capsule, Triangle}
 use Rattle.shape.specs.declared.vertex.Vertex.{Vertex}
 use Rattle.shape.specs.Vertex.{newVertex}
 

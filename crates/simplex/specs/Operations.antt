@@ -10,7 +10,7 @@ use Rattle.vector.specs.declared.vec3.Vec3.{Vec3}
 use Rattle.vector.specs.Vector.{zeroF}
 use Rattle.shape.specs.declared.vertex.Vertex.{Vertex}
 use Rattle.shape.specs.Vertex.{zeroVertex}
-use Rattle.simplex.specs.declared.simplex.VoronoiSimplex.{VoronoiSimplex}
+use Rattle.simplex.specs.declared.voronoi_simplex.VoronoiSimplex.{VoronoiSimplex}
 use Rattle.simplex.specs.declared.operations.Outcome.{Outcome}
 use Rattle.simplex.specs.declared.operations.Outcome.the-variants.{Done, Refused}
 use Rattle.simplex.specs.declared.operations.Altered.{Altered}

@@ -12,7 +12,7 @@ use Rattle.vector.specs.declared.vec3.Vec3.{Vec3}
 use Rattle.vector.specs.Vector.{zeroF, vec3, dotV, crossV, lengthSquaredV, normalizeV, equalV}
 use Rattle.shape.specs.declared.vertex.Vertex.{Vertex}
 use Rattle.shape.specs.Vertex.{zeroVertex, translateVertex, subVertex}
-use Rattle.simplex.specs.declared.simplex.VoronoiSimplex.{VoronoiSimplex}
+use Rattle.simplex.specs.declared.voronoi_simplex.VoronoiSimplex.{VoronoiSimplex}
 
 -- The fields in the Rust's order: previous places, previous weights, previous dimension, vertices, weights, dimension
 abbrev pub simplexOf : List ℕ → List Float → ℕ → List Vertex → List Float → ℕ → VoronoiSimplex

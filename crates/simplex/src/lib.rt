@@ -2,8 +2,8 @@
 // Rust alters it; the projections of the origin are the crate `reduction`. A value that is no simplex, and every place where the Rust panics, gets refusal 2
 // with the simplex as it came in.
 mod operations;
-mod simplex;
 mod steps;
+mod voronoi_simplex;
 
 pub use operations::Added;
 pub use operations::Altered;
@@ -12,4 +12,4 @@ pub use operations::Corner;
 pub use operations::Number;
 pub use operations::Outcome;
 pub use operations::Size;
-pub use simplex::VoronoiSimplex;
+pub use voronoi_simplex::VoronoiSimplex;

@@ -5,8 +5,8 @@ ghost use lib.Ieee.{binary32};
 ghost use Rattle.simplex.specs.Operations.{swapSimplex, resetSimplex, addPoint, modifyPnts};
 ghost use Rattle.simplex.specs.Operations.{projCoord, cornerPoint, prevProjCoord, prevPoint};
 ghost use Rattle.simplex.specs.Operations.{containsPoint, dimensionOf, prevDimensionOf, maxSqLen};
-use crate::simplex::VoronoiSimplex;
 use crate::steps;
+use crate::voronoi_simplex::VoronoiSimplex;
 use shape::Vertex;
 use vector::Vec3;
 

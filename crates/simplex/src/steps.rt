@@ -6,7 +6,7 @@ ghost use lib.Ieee.{binary32};
 ghost use Rattle.simplex.specs.Simplex.{swapIn, savedIn, grownIn};
 ghost use Rattle.simplex.specs.Simplex.{nearPoint, nearLine, nearPlane, nearSimplex};
 ghost use Rattle.simplex.specs.Simplex.{resetIn, hasPoint, greaterSqLen, maxSqLenOf, translatedIn};
-use crate::simplex::VoronoiSimplex;
+use crate::voronoi_simplex::VoronoiSimplex;
 use shape::Vertex;
 use vector::Vec3;
 

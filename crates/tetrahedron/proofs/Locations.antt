@@ -14,12 +14,12 @@ use Rattle.tetrahedron.specs.declared.TetrahedronPointLocation.{Tetrahed
 use Rattle.tetrahedron.specs.declared.TetrahedronPointLocation.the-variants as Location
 use Rattle.tetrahedron.specs.declared.TetrahedronProjection.{TetrahedronProjection}
 use Rattle.tetrahedron.specs.declared.TetrahedronProjection.the-variants as Projection
-use Rattle.tetrahedron.specs.declared.MaybeProjection.{MaybeProjection}
-use Rattle.tetrahedron.specs.declared.MaybeProjection.the-variants as Found
-use Rattle.tetrahedron.specs.declared.Differences.{Differences}
-use Rattle.tetrahedron.specs.declared.Dots.{Dots}
-use Rattle.tetrahedron.specs.declared.EdgeCheck.{EdgeCheck}
-use Rattle.tetrahedron.specs.declared.Sides.{Sides}
+use Rattle.tetrahedron.specs.declared.locals.MaybeProjection.{MaybeProjection}
+use Rattle.tetrahedron.specs.declared.locals.MaybeProjection.the-variants as Found
+use Rattle.tetrahedron.specs.declared.locals.Differences.{Differences}
+use Rattle.tetrahedron.specs.declared.locals.Dots.{Dots}
+use Rattle.tetrahedron.specs.declared.locals.EdgeCheck.{EdgeCheck}
+use Rattle.tetrahedron.specs.declared.locals.Sides.{Sides}
 use Rattle.tetrahedron.specs.Tetrahedron as Tet
 
 -- the locations that there are, by their numbers

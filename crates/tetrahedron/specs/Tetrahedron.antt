@@ -14,14 +14,14 @@ use Rattle.tetrahedron.specs.declared.TetrahedronPointLocation.{Tetrahed
 use Rattle.tetrahedron.specs.declared.TetrahedronPointLocation.the-variants.{OnVertex, OnEdge, OnFace, OnSolid}
 use Rattle.tetrahedron.specs.declared.TetrahedronProjection.{TetrahedronProjection}
 use Rattle.tetrahedron.specs.declared.TetrahedronProjection.the-variants.{At, Refused}
-use Rattle.tetrahedron.specs.declared.MaybeProjection.{MaybeProjection}
-use Rattle.tetrahedron.specs.declared.MaybeProjection.the-variants.{Some, None}
-use Rattle.tetrahedron.specs.declared.Differences.{Differences}
-use Rattle.tetrahedron.specs.declared.Dots.{Dots}
-use Rattle.tetrahedron.specs.declared.Normals.{Normals}
-use Rattle.tetrahedron.specs.declared.EdgeCheck.{EdgeCheck}
-use Rattle.tetrahedron.specs.declared.Edges.{Edges}
-use Rattle.tetrahedron.specs.declared.Sides.{Sides}
+use Rattle.tetrahedron.specs.declared.locals.MaybeProjection.{MaybeProjection}
+use Rattle.tetrahedron.specs.declared.locals.MaybeProjection.the-variants.{Some, None}
+use Rattle.tetrahedron.specs.declared.locals.Differences.{Differences}
+use Rattle.tetrahedron.specs.declared.locals.Dots.{Dots}
+use Rattle.tetrahedron.specs.declared.locals.Normals.{Normals}
+use Rattle.tetrahedron.specs.declared.locals.EdgeCheck.{EdgeCheck}
+use Rattle.tetrahedron.specs.declared.locals.Edges.{Edges}
+use Rattle.tetrahedron.specs.declared.locals.Sides.{Sides}
 
 -- `if let Some(res) = res { return res; }`, and what follows
 infixr 50 _orElse_

@@ -3,9 +3,18 @@
 ghost use mathlib.Core.Path.{_≡_};
 ghost use lib.Ieee.{binary32};
 ghost use Rattle.tetrahedron.specs.Tetrahedron.{projectTetrahedron};
-ghost use Rattle.tetrahedron.specs.Tetrahedron.{differences, dots, normals, onVertex, vertexRegion};
-ghost use Rattle.tetrahedron.specs.Tetrahedron.{onEdge, checkEdge, checkEdges, _orElse_, firstEdge, sides};
+ghost use Rattle.tetrahedron.specs.Tetrahedron.{differences, onVertex, vertexRegion, onEdge, checkEdge, checkEdges};
 ghost use Rattle.tetrahedron.specs.Tetrahedron.{onFace, checkFace, faceAbc, faceAbd, faceAcd, faceBcd, checkFaces};
+
+// The Rust's locals, as types.
+mod locals;
+
+use locals::Differences;
+use locals::Dots;
+use locals::EdgeCheck;
+use locals::Edges;
+use locals::MaybeProjection;
+use locals::Sides;
 use vector::MaybeVec3;
 use vector::Vec3;
 
@@ -30,83 +39,6 @@ pub enum TetrahedronPointLocation {
 pub enum TetrahedronProjection {
     At(Vec3, TetrahedronPointLocation),
     Refused,
-}
-
-// The Rust's `Option<(PointProjection, TetrahedronPointLocation)>`.
-enum MaybeProjection {
-    Some(TetrahedronProjection),
-    None,
-}
-
-// The Rust's locals: the edges, and the way to `pt` from each corner.
-struct Differences {
-    ab: Vec3,
-    ac: Vec3,
-    ad: Vec3,
-    ap: Vec3,
-    bc: Vec3,
-    bd: Vec3,
-    bp: Vec3,
-    cd: Vec3,
-    cp: Vec3,
-    dp: Vec3,
-}
-
-// The Rust's locals of the same names.
-struct Dots {
-    ap_ab: f32,
-    ap_ac: f32,
-    ap_ad: f32,
-    bp_bc: f32,
-    bp_bd: f32,
-    bp_ab: f32,
-    cp_ac: f32,
-    cp_bc: f32,
-    cp_cd: f32,
-    dp_cd: f32,
-    dp_bd: f32,
-    dp_ad: f32,
-}
-
-// The normals that the Rust names `nabc`, `nabd`, `nacd` and `nbcd`.
-struct Normals {
-    abc: Vec3,
-    abd: Vec3,
-    acd: Vec3,
-    bcd: Vec3,
-}
-
-// What `check_edge` returns: the Rust's triple.
-struct EdgeCheck {
-    dabc: f32,
-    dabd: f32,
-    res: MaybeProjection,
-}
-
-// What the six calls of `check_edge` return.
-struct Edges {
-    ab: EdgeCheck,
-    ac: EdgeCheck,
-    ad: EdgeCheck,
-    bc: EdgeCheck,
-    bd: EdgeCheck,
-    cd: EdgeCheck,
-}
-
-// The numbers of the six edges under the names that the Rust gives them.
-struct Sides {
-    dabc: f32,
-    dabd: f32,
-    dacd: f32,
-    dacb: f32,
-    dadb: f32,
-    dadc: f32,
-    dbca: f32,
-    dbcd: f32,
-    dbdc: f32,
-    dbda: f32,
-    dcda: f32,
-    dcdb: f32,
 }
 
 impl Tetrahedron {
@@ -290,91 +222,6 @@ impl Tetrahedron {
             s.dcdb,
             s.dbdc,
         )
-    }
-}
-
-impl Differences {
-    fn dots(self) -> Dots
-        ensures { λ r. ⌜ r ≡ dots binary32 self ⌝ }
-    {
-        Dots {
-            ap_ab: self.ap.dot(self.ab),
-            ap_ac: self.ap.dot(self.ac),
-            ap_ad: self.ap.dot(self.ad),
-            bp_bc: self.bp.dot(self.bc),
-            bp_bd: self.bp.dot(self.bd),
-            bp_ab: self.bp.dot(self.ab),
-            cp_ac: self.cp.dot(self.ac),
-            cp_bc: self.cp.dot(self.bc),
-            cp_cd: self.cp.dot(self.cd),
-            dp_cd: self.dp.dot(self.cd),
-            dp_bd: self.dp.dot(self.bd),
-            dp_ad: self.dp.dot(self.ad),
-        }
-    }
-
-    fn normals(self) -> Normals
-        ensures { λ r. ⌜ r ≡ normals binary32 self ⌝ }
-    {
-        Normals {
-            abc: self.ab.cross(self.ac),
-            abd: self.ab.cross(self.ad),
-            acd: self.ac.cross(self.ad),
-            bcd: self.bc.cross(self.bd),
-        }
-    }
-}
-
-impl Edges {
-    // The first edge whose region holds the point.
-    fn first(self) -> MaybeProjection
-        ensures { λ r. ⌜ r ≡ firstEdge self ⌝ }
-    {
-        let ab = self.ab;
-        let ac = self.ac;
-        let ad = self.ad;
-        let bc = self.bc;
-        let bd = self.bd;
-        let cd = self.cd;
-        let ab_res = ab.res;
-        let ac_res = ac.res;
-        let ad_res = ad.res;
-        let bc_res = bc.res;
-        let bd_res = bd.res;
-        let cd_res = cd.res;
-        ab_res.or(ac_res.or(ad_res.or(bc_res.or(bd_res.or(cd_res)))))
-    }
-
-    // The numbers under the names that the Rust gives them.
-    fn sides(self) -> Sides
-        ensures { λ r. ⌜ r ≡ sides self ⌝ }
-    {
-        Sides {
-            dabc: self.ab.dabc,
-            dabd: self.ab.dabd,
-            dacd: self.ac.dabc,
-            dacb: self.ac.dabd,
-            dadb: self.ad.dabc,
-            dadc: self.ad.dabd,
-            dbca: self.bc.dabc,
-            dbcd: self.bc.dabd,
-            dbdc: self.bd.dabc,
-            dbda: self.bd.dabd,
-            dcda: self.cd.dabc,
-            dcdb: self.cd.dabd,
-        }
-    }
-}
-
-impl MaybeProjection {
-    // `Option::or`
-    fn or(self, other: MaybeProjection) -> MaybeProjection
-        ensures { λ r. ⌜ r ≡ (self orElse other) ⌝ }
-    {
-        match self {
-            MaybeProjection::Some(found) => MaybeProjection::Some(found),
-            MaybeProjection::None => other,
-        }
     }
 }
 

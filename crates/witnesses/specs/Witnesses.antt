@@ -4,7 +4,7 @@ use mathlib.Core.Bool.{Bool, cond}
 use lib.Dec.{ltb}
 use lib.Ieee.{Format}
 use Rattle.vector.specs.Vector.{zeroV, addV, scaleV}
-use Rattle.simplex.specs.declared.simplex.VoronoiSimplex.{VoronoiSimplex}
+use Rattle.simplex.specs.declared.voronoi_simplex.VoronoiSimplex.{VoronoiSimplex}
 use Rattle.simplex.specs.declared.operations.Number.{Number}
 use Rattle.simplex.specs.declared.operations.Number.the-variants as Weight
 use Rattle.simplex.specs.declared.operations.Corner.{Corner}

@@ -3,8 +3,9 @@ use Prim.Native.Nat.{ℕ, _*_, _≤_}
 use mathlib.Core.List.{List, [], _∷_, _++_, append-nil}
 use native.Mathlib.Omega.{arith}
 use lib.ListN.{length, length-append}
-use Rattle.shape.specs.declared.shape.Shape.{Shape}
-use Rattle.shape.specs.declared.shape.Shape.the-variants.{Ball, Cuboid, Capsule, Triangle}
+use lib.Ieee.{Format}
+use Rattle.shape.specs.declared.support.Shape.{Shape}
+use Rattle.shape.specs.declared.support.Shape.the-variants.{Ball, Cuboid, Capsule, Triangle}
 use Rattle.casefile.specs.declared.records.Case.{Case}
 use Rattle.casefile.specs.Numbers.{encode}
 use Rattle.lines.specs.Text.{Put}
@@ -25,22 +26,22 @@ unfolding encodeAll
 all-length [] = omega arith
 all-length (n ∷ w) = omega (arith, length-append (encode n) (encodeAll w), encode-length n, all-length w)
 
-shape-count : (g : Shape) → length (shapeNumbers (shapeWords g)) ≤ 10
+shape-count : (f : Format) (g : Shape) → length (shapeNumbers (shapeWords f g)) ≤ 10
 unfolding shapeWords
-shape-count (Ball r) = omega arith
-shape-count (Cuboid x y z) = omega arith
-shape-count (Capsule ax ay az bx by bz r) = omega arith
-shape-count (Triangle ax ay az bx by bz cx cy cz) = omega arith
+shape-count f (Ball r) = omega arith
+shape-count f (Cuboid x y z) = omega arith
+shape-count f (Capsule ax ay az bx by bz r) = omega arith
+shape-count f (Triangle ax ay az bx by bz cx cy cz) = omega arith
 
-pub shape-length : (g : Shape) → length (encodeAll (shapeNumbers (shapeWords g))) ≤ 50
-shape-length g = omega (arith, all-length (shapeNumbers (shapeWords g)), shape-count g)
+pub shape-length : (f : Format) (g : Shape) → length (encodeAll (shapeNumbers (shapeWords f g))) ≤ 50
+shape-length f g = omega (arith, all-length (shapeNumbers (shapeWords f g)), shape-count f g)
 
-pub case-length : (c : Case) → length (encodeCase (wordsOf c)) ≤ 160
+pub case-length : (f : Format) (c : Case) → length (encodeCase (wordsOf f c)) ≤ 160
 unfolding encodeCase wordsOf
-case-length c =
-    let a = shapeNumbers (shapeWords (c .g1)) in
-    let b = shapeNumbers (shapeWords (c .g2)) in
-    let n = poseWords (c .pos12) ++ vectorWords (c .dir) ++ bitsOf (c .«max_dist») ∷ [] in
-    let f = flagOf (c .exact) ∷ [] in
-    let e : length (a ++ b ++ n ++ f) ≤ 32 = simp length-append (omega (arith, shape-count (c .g1), shape-count (c .g2))) in
-    omega (arith, all-length (a ++ b ++ n ++ f))
+case-length f c =
+    let a = shapeNumbers (shapeWords f (c .g1)) in
+    let b = shapeNumbers (shapeWords f (c .g2)) in
+    let n = poseWords f (c .pos12) ++ vectorWords f (c .dir) ++ bitsOf f (c .«max_dist») ∷ [] in
+    let e = flagOf (c .exact) ∷ [] in
+    let few : length (a ++ b ++ n ++ e) ≤ 32 = simp length-append (omega (arith, shape-count f (c .g1), shape-count f (c .g2))) in
+    omega (arith, all-length (a ++ b ++ n ++ e))

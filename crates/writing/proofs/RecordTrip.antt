@@ -10,6 +10,7 @@ use native.Mathlib.Omega.{arith}
 use lib.ListN.{length, take, drop, length-append, take-append-drop}
 use lib.Seq.{drop-append-seam, drop-drop, take-append-seam}
 use lib.Dec.{leb}
+use lib.Ieee.{Format}
 use borrow.Author.Tests.{le-leb, leb-true}
 use Rattle.casefile.specs.declared.numbers.NumberAnswer.{NumberAnswer}
 use Rattle.casefile.specs.declared.records.Case.{Case}
@@ -223,18 +224,18 @@ encoded-case w s t at v e =
     words-there w v (record { small = v .small; after = refl; here = e ∙ ap (λ (l : List ℕ). encodeAll (numbersOf w) ++ l) (sym d) })
 
 -- and `readCase` gives what its words stand for
-pub encoded-case-read : (w : Words) (s t : List ℕ) (at : ℕ) → Valid w → drop at s ≡ encodeCase w ++ t → readCase s at ≡ CaseAnswer.Whole (caseOf w) (at + length (encodeCase w))
+pub encoded-case-read : (f : Format) (w : Words) (s t : List ℕ) (at : ℕ) → Valid w → drop at s ≡ encodeCase w ++ t → readCase f s at ≡ CaseAnswer.Whole (caseOf f w) (at + length (encodeCase w))
 unfolding readCase
-encoded-case-read w s t at v e = simp (encoded-case w s t at v e)
+encoded-case-read f w s t at v e = simp (encoded-case w s t at v e)
 
-pub encoded-case-between : (w : Words) (p t : List ℕ) → Valid w → readCase (p ++ (encodeCase w ++ t)) (length p) ≡ CaseAnswer.Whole (caseOf w) (length p + length (encodeCase w))
-encoded-case-between w p t v = encoded-case-read w (p ++ (encodeCase w ++ t)) t (length p) v (drop-append-seam p (encodeCase w ++ t))
+pub encoded-case-between : (f : Format) (w : Words) (p t : List ℕ) → Valid w → readCase f (p ++ (encodeCase w ++ t)) (length p) ≡ CaseAnswer.Whole (caseOf f w) (length p + length (encodeCase w))
+encoded-case-between f w p t v = encoded-case-read f w (p ++ (encodeCase w ++ t)) t (length p) v (drop-append-seam p (encodeCase w ++ t))
 
 -- a case that was read from the bytes between two places: the bytes are the encoding of valid words, which stand for the case
-pub record Encoded (s : List ℕ) (at : ℕ) (c : Case) (next : ℕ) : Type 0 where
+pub record Encoded (f : Format) (s : List ℕ) (at : ℕ) (c : Case) (next : ℕ) : Type 0 where
   pub words : Words
   pub valid : Valid words
-  pub stands-for : c ≡ caseOf words
+  pub stands-for : c ≡ caseOf f words
   pub after : next ≡ at + length (encodeCase words)
   pub bytes : take (next - at) (drop at s) ≡ encodeCase words
 
@@ -244,11 +245,11 @@ whole c d (Bad p) next e = absurd (let z : _≡_ {A = ℕ} 0 1 = cc in omega ari
 whole c d Ended next e = absurd (let z : _≡_ {A = ℕ} 0 1 = cc in omega arith)
 
 -- what is read whole is the encoding of what it was read as
-pub decoded-case : (s : List ℕ) (at : ℕ) (c : Case) (next : ℕ) → Bytes s → readCase s at ≡ CaseAnswer.Whole c next → Encoded s at c next
+pub decoded-case : (f : Format) (s : List ℕ) (at : ℕ) (c : Case) (next : ℕ) → Bytes s → readCase f s at ≡ CaseAnswer.Whole c next → Encoded f s at c next
 unfolding readCase encodeCase
-decoded-case s at c next b e =
+decoded-case f s at c next b e =
     let w = wordsAt s (At at) .value in
-    let h = whole (caseOf w) c (wordsAt s (At at) .reading) next e in
+    let h = whole (caseOf f w) c (wordsAt s (At at) .reading) next e in
     let r = words-back (At at) b (h .1) in
     let p = r .1 in
     let i : p .from ≡ at = let g = p .is in cc in
@@ -264,15 +265,15 @@ decoded-case s at c next b e =
     }
 
 -- refusal 4 is given only where no valid record is encoded, and wherever none is
-pub refused-only : (s : List ℕ) (at : ℕ) → caseNumber (readCase s at) ≡ 4 → (w : Words) (t : List ℕ) → Valid w → drop at s ≡ encodeCase w ++ t → ⊥
-refused-only s at h w t v e = let k = ap (λ (x : CaseAnswer). caseNumber x) (encoded-case-read w s t at v e) in omega (arith, k)
+pub refused-only : (f : Format) (s : List ℕ) (at : ℕ) → caseNumber (readCase f s at) ≡ 4 → (w : Words) (t : List ℕ) → Valid w → drop at s ≡ encodeCase w ++ t → ⊥
+refused-only f s at h w t v e = let k = ap (λ (x : CaseAnswer). caseNumber x) (encoded-case-read f w s t at v e) in omega (arith, k)
 
-pub refused-whenever : (s : List ℕ) (at : ℕ) → Bytes s → ((w : Words) (t : List ℕ) → Valid w → drop at s ≡ encodeCase w ++ t → ⊥) → caseNumber (readCase s at) ≡ 4
-refused-whenever s at b none = go (readCase s at) refl
+pub refused-whenever : (f : Format) (s : List ℕ) (at : ℕ) → Bytes s → ((w : Words) (t : List ℕ) → Valid w → drop at s ≡ encodeCase w ++ t → ⊥) → caseNumber (readCase f s at) ≡ 4
+refused-whenever f s at b none = go (readCase f s at) refl
   where
-    go : (x : CaseAnswer) → readCase s at ≡ x → caseNumber x ≡ 4
+    go : (x : CaseAnswer) → readCase f s at ≡ x → caseNumber x ≡ 4
     go (CaseAnswer.Whole c next) e =
-        let d = decoded-case s at c next b e in
+        let d = decoded-case f s at c next b e in
         let l = drop at s in
         absurd (none (d .words) (drop (next - at) l) (d .valid) (sym (take-append-drop (next - at) l) ∙ ap (λ (t : List ℕ). t ++ drop (next - at) l) (d .bytes)))
     go (CaseAnswer.Malformed p) e = refl

@@ -2,6 +2,7 @@
 ghost use mathlib.Core.Path.{_≡_};
 ghost use mathlib.Core.List.{[], _∷_};
 ghost use Prim.Native.Nat.{_+_, _≤_};
+ghost use lib.Ieee.{binary32};
 ghost use lib.ListN.{length};
 ghost use Rattle.lines.specs.Text.{Put, after, placeOf};
 ghost use Rattle.casefile.specs.Records.{encodeAll, bitsOf, vectorWords, poseWords, shapeWords, shapeNumbers, wordsOf, numbersOf, flagOf, encodeCase};
@@ -21,14 +22,14 @@ fn put_word(out: &mut [u8], at: usize, word: u32) -> usize
 
 fn put_float(out: &mut [u8], at: usize, x: f32) -> usize
     requires { ⌜ at + 5 ≤ length (now out) ⌝ }
-    ensures { λ r. ⌜ Put (now (out .entry)) at (encodeAll (bitsOf x ∷ [])) (now (out .exit)) r ⌝ }
+    ensures { λ r. ⌜ Put (now (out .entry)) at (encodeAll (bitsOf binary32 x ∷ [])) (now (out .exit)) r ⌝ }
 {
     put_word(out, at, number::to_bits(x))
 }
 
 fn put_vector(out: &mut [u8], at: usize, v: Vec3) -> usize
     requires { ⌜ at + 15 ≤ length (now out) ⌝ }
-    ensures { λ r. ⌜ Put (now (out .entry)) at (encodeAll (vectorWords v)) (now (out .exit)) r ⌝ }
+    ensures { λ r. ⌜ Put (now (out .entry)) at (encodeAll (vectorWords binary32 v)) (now (out .exit)) r ⌝ }
 {
     let second = put_float(out, at, v.x);
     let third = put_float(out, second, v.y);
@@ -37,7 +38,7 @@ fn put_vector(out: &mut [u8], at: usize, v: Vec3) -> usize
 
 fn put_shape(out: &mut [u8], at: usize, shape: Shape) -> usize
     requires { ⌜ at + 50 ≤ length (now out) ⌝ }
-    ensures { λ r. ⌜ Put (now (out .entry)) at (encodeAll (shapeNumbers (shapeWords shape))) (now (out .exit)) r ⌝ }
+    ensures { λ r. ⌜ Put (now (out .entry)) at (encodeAll (shapeNumbers (shapeWords binary32 shape))) (now (out .exit)) r ⌝ }
 {
     match shape {
         Shape::Ball(radius) => {
@@ -65,7 +66,7 @@ fn put_shape(out: &mut [u8], at: usize, shape: Shape) -> usize
 
 fn put_pose(out: &mut [u8], at: usize, pose: Pose) -> usize
     requires { ⌜ at + 35 ≤ length (now out) ⌝ }
-    ensures { λ r. ⌜ Put (now (out .entry)) at (encodeAll (poseWords pose)) (now (out .exit)) r ⌝ }
+    ensures { λ r. ⌜ Put (now (out .entry)) at (encodeAll (poseWords binary32 pose)) (now (out .exit)) r ⌝ }
 {
     let q = pose.rotation;
     let y = put_float(out, at, q.x);
@@ -77,7 +78,7 @@ fn put_pose(out: &mut [u8], at: usize, pose: Pose) -> usize
 
 fn put_case(out: &mut [u8], at: usize, case: Case) -> usize
     requires { ⌜ at + 160 ≤ length (now out) ⌝ }
-    ensures { λ r. ⌜ Put (now (out .entry)) at (encodeAll (numbersOf (wordsOf case))) (now (out .exit)) r ⌝ }
+    ensures { λ r. ⌜ Put (now (out .entry)) at (encodeAll (numbersOf (wordsOf binary32 case))) (now (out .exit)) r ⌝ }
 {
     let g1 = case.g1;
     let g2 = case.g2;
@@ -99,7 +100,7 @@ fn flag_of(exact: bool) -> u32
 
 // The record goes to the places from `at` on, where it has room there.
 pub fn write_case(out: &mut [u8], at: usize, case: Case) -> Placed
-    ensures { λ r. ⌜ after (now (out .exit)) r ≡ placeOf (now (out .entry)) at (encodeCase (wordsOf case)) ⌝ }
+    ensures { λ r. ⌜ after (now (out .exit)) r ≡ placeOf (now (out .entry)) at (encodeCase (wordsOf binary32 case)) ⌝ }
 {
     let mut record = [0u8; 160];
     let n = put_case(&mut record, 0, case);

@@ -22,7 +22,7 @@ loop-holds c = (search needs, refl)
 
 loop-again : tie.Need-loop-again Inv-loop μ-loop
 unfolding witnessesTo
-loop-again c = (search needs, simp (add-one, c .with-vertex .ensures, c .before .before .loop .inv .1))
+loop-again c = (search needs, simp (add-one, ← c .before .before .loop .inv .1, ← c .with-vertex .ensures))
 
 returns : tie.Need-returns Inv-loop μ-loop
 returns c = let l = c .before .loop in rw (l .inv .1) (ap (witnessesTo binary32 _ _) (omega arith))

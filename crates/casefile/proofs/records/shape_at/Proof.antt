@@ -16,7 +16,7 @@ returns-3 c = simp (shape-part, ← c .before .before .before .before .small-at 
 returns-4 : tie.Need-returns-4
 returns-4 c =
     simp (shape-part, ← c .before .before .before .before .small-at .ensures)
-    (c .triangle-at .ensures ∙ sym (triangle-kind _ _ _ (c .before .before .before .if1 .left) (c .before .before .if2 .left) (c .before .if3 .left)))
+    (c .triangle-at .ensures ∙ sym (triangle-kind _ _ _ _ (c .before .before .before .if1 .left) (c .before .before .if2 .left) (c .before .if3 .left)))
 
 pub shape-at-spec : {M : Type 1} → statement M
 shape-at-spec = tie.close (tie.spec (λ c κs. tt) (λ c κs. tt) returns (λ c κs. tt) returns-2 (λ c κs. tt) returns-3 (λ c κs. tt) returns-4)

@@ -4,7 +4,7 @@ use mathlib.Core.Path.{_≡_, _∙_, sym, refl}
 use native.Mathlib.Omega.{arith}
 use borrow.Author.Needs.{needs}
 use lib.Ieee.{binary32}
-use Rattle.simplex.specs.declared.simplex.VoronoiSimplex.{VoronoiSimplex}
+use Rattle.simplex.specs.declared.voronoi_simplex.VoronoiSimplex.{VoronoiSimplex}
 use Rattle.cast.specs.declared.rounds.Cast.{Cast}
 use Rattle.cast.specs.declared.rounds.Round.{Round}
 use Rattle.cast.specs.declared.rounds.Next.the-variants.{Onward, Ended}
@@ -29,7 +29,7 @@ spent : (k : Search) (i : ℕ) (s : VoronoiSimplex) (r : Round) → 100 ≤ i �
 spent k i s r h = let z : 100 - i ≡ 0 = omega arith in rw z
 
 abbrev Inv-loop : tie.InvT-loop
-Inv-loop q present₀ r₀ niter₀ present r niter = (niter ≤ 100) × (runOf binary32 (searchOf q) (100 - niter) present r ≡ runOf binary32 (searchOf q) 100 present₀ r₀)
+Inv-loop q present₀ r₀ niter₀ present r niter = (niter ≤ 100) × (runOf binary32 (searchOf binary32 q) (100 - niter) present r ≡ runOf binary32 (searchOf binary32 q) 100 present₀ r₀)
 
 abbrev μ-loop : tie.MeasureT-loop
 μ-loop q present₀ r₀ niter₀ present r niter = 100 - niter

@@ -45,15 +45,15 @@ use Rattle.shape.specs.declared.vertex.Vertex.{Vertex}
 use Rattle.shape.proofs.vertex.Vertex as X
 use Rattle.shape.proofs.vertex.Vertex.Laws as X′
 use Rattle.simplex.specs.Operations.{addPoint}
-use Rattle.simplex.specs.declared.simplex.VoronoiSimplex.{VoronoiSimplex}
+use Rattle.simplex.specs.declared.voronoi_simplex.VoronoiSimplex.{VoronoiSimplex}
 use Rattle.simplex.specs.declared.operations.Answer.{Answer}
 use Rattle.simplex.specs.declared.operations.Added.{Added}
 use Rattle.simplex.proofs.operations.Answer as E
 use Rattle.simplex.proofs.operations.Answer.Laws as E′
 use Rattle.simplex.proofs.operations.Added as B
 use Rattle.simplex.proofs.operations.Added.Laws as B′
-use Rattle.simplex.proofs.simplex.VoronoiSimplex as T
-use Rattle.simplex.proofs.simplex.VoronoiSimplex.Laws as T′
+use Rattle.simplex.proofs.voronoi_simplex.VoronoiSimplex as T
+use Rattle.simplex.proofs.voronoi_simplex.VoronoiSimplex.Laws as T′
 use Rattle.simplex_lent.proofs.add_point as thin
 use Rattle.simplex_lent.proofs.add_point.Symbol as thin-def
 use Rattle.simplex_lent.proofs.add_point.Symbol.{name as #thin}

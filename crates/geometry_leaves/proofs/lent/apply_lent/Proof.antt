@@ -41,7 +41,7 @@ use denote.Triple.Walked.{says, Stays, stay-none, walkOf, AllGo, goes-none, Walk
 use denote.Triple.Clauses.{ensured, lasts}
 use denote.Exit.{yes}
 use Rattle.reduction.specs.Reduction.{applyLocation}
-use Rattle.simplex.specs.declared.simplex.VoronoiSimplex.{VoronoiSimplex}
+use Rattle.simplex.specs.declared.voronoi_simplex.VoronoiSimplex.{VoronoiSimplex}
 use Rattle.reduction.specs.declared.location.Location.{Location}
 use Rattle.reduction.proofs.location.Location as X
 use Rattle.reduction.proofs.location.Location.Laws as X′
@@ -51,8 +51,8 @@ use Rattle.reduction.proofs.applying.Application as E
 use Rattle.reduction.proofs.applying.Application.Laws as E′
 use Rattle.reduction.proofs.applying.Applied as B
 use Rattle.reduction.proofs.applying.Applied.Laws as B′
-use Rattle.simplex.proofs.simplex.VoronoiSimplex as T
-use Rattle.simplex.proofs.simplex.VoronoiSimplex.Laws as T′
+use Rattle.simplex.proofs.voronoi_simplex.VoronoiSimplex as T
+use Rattle.simplex.proofs.voronoi_simplex.VoronoiSimplex.Laws as T′
 use Rattle.simplex_lent.proofs.apply_location as thin
 use Rattle.simplex_lent.proofs.apply_location.Symbol as thin-def
 use Rattle.simplex_lent.proofs.apply_location.Symbol.{name as #thin}

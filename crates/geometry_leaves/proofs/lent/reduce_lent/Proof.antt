@@ -42,15 +42,15 @@ use denote.Triple.Clauses.{ensured, lasts}
 use denote.Exit.{yes}
 use lib.Ieee.{binary32}
 use Rattle.reduction.specs.Reduction.{projectOriginAndReduce}
-use Rattle.simplex.specs.declared.simplex.VoronoiSimplex.{VoronoiSimplex}
+use Rattle.simplex.specs.declared.voronoi_simplex.VoronoiSimplex.{VoronoiSimplex}
 use Rattle.reduction.specs.declared.location.Projected.{Projected}
 use Rattle.reduction.proofs.location.Projected as E
 use Rattle.reduction.proofs.location.Projected.Laws as E′
 use Rattle.geometry_leaves.specs.declared.lent.Reduced.{Reduced}
 use Rattle.geometry_leaves.proofs.lent.Reduced as B
 use Rattle.geometry_leaves.proofs.lent.Reduced.Laws as B′
-use Rattle.simplex.proofs.simplex.VoronoiSimplex as T
-use Rattle.simplex.proofs.simplex.VoronoiSimplex.Laws as T′
+use Rattle.simplex.proofs.voronoi_simplex.VoronoiSimplex as T
+use Rattle.simplex.proofs.voronoi_simplex.VoronoiSimplex.Laws as T′
 use Rattle.simplex_lent.proofs.project_origin_and_reduce as thin
 use Rattle.simplex_lent.proofs.project_origin_and_reduce.Symbol as thin-def
 use Rattle.simplex_lent.proofs.project_origin_and_reduce.Symbol.{name as #thin}

@@ -44,15 +44,15 @@ use Rattle.shape.specs.declared.vertex.Vertex.{Vertex}
 use Rattle.shape.proofs.vertex.Vertex as X
 use Rattle.shape.proofs.vertex.Vertex.Laws as X′
 use Rattle.simplex.specs.Operations.{resetSimplex}
-use Rattle.simplex.specs.declared.simplex.VoronoiSimplex.{VoronoiSimplex}
+use Rattle.simplex.specs.declared.voronoi_simplex.VoronoiSimplex.{VoronoiSimplex}
 use Rattle.simplex.specs.declared.operations.Outcome.{Outcome}
 use Rattle.simplex.specs.declared.operations.Altered.{Altered}
 use Rattle.simplex.proofs.operations.Outcome as E
 use Rattle.simplex.proofs.operations.Outcome.Laws as E′
 use Rattle.simplex.proofs.operations.Altered as B
 use Rattle.simplex.proofs.operations.Altered.Laws as B′
-use Rattle.simplex.proofs.simplex.VoronoiSimplex as T
-use Rattle.simplex.proofs.simplex.VoronoiSimplex.Laws as T′
+use Rattle.simplex.proofs.voronoi_simplex.VoronoiSimplex as T
+use Rattle.simplex.proofs.voronoi_simplex.VoronoiSimplex.Laws as T′
 use Rattle.simplex_lent.proofs.reset as thin
 use Rattle.simplex_lent.proofs.reset.Symbol as thin-def
 use Rattle.simplex_lent.proofs.reset.Symbol.{name as #thin}

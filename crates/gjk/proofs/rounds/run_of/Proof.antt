@@ -5,7 +5,7 @@ use native.Mathlib.Omega.{arith}
 use borrow.Author.Needs.{needs}
 use lib.Ieee.{binary32, ofBits}
 use Rattle.vector.specs.Vector.{xV}
-use Rattle.simplex.specs.declared.simplex.VoronoiSimplex.{VoronoiSimplex}
+use Rattle.simplex.specs.declared.voronoi_simplex.VoronoiSimplex.{VoronoiSimplex}
 use Rattle.gjk.specs.declared.rounds.GJKResult.{GJKResult}
 use Rattle.gjk.specs.declared.rounds.Round.{Round}
 use Rattle.gjk.specs.declared.rounds.Next.the-variants.{Onward, Ended}
@@ -34,7 +34,7 @@ spent : (k : Search) (i : ℕ) (s : VoronoiSimplex) (r : Round) → 107 ≤ i �
 spent k i s r h = let z : 107 - i ≡ 0 = omega arith in rw z
 
 abbrev Inv-loop : tie.InvT-loop
-Inv-loop q present₀ r₀ i₀ present r i = (i ≤ 107) × (r .niter < 100) × (runOf binary32 (searchOf q) (107 - i) present r ≡ runOf binary32 (searchOf q) 107 present₀ r₀)
+Inv-loop q present₀ r₀ i₀ present r i = (i ≤ 107) × (r .niter < 100) × (runOf binary32 (searchOf binary32 q) (107 - i) present r ≡ runOf binary32 (searchOf binary32 q) 107 present₀ r₀)
 
 abbrev μ-loop : tie.MeasureT-loop
 μ-loop q present₀ r₀ i₀ present r i = 107 - i

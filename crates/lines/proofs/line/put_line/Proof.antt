@@ -1,6 +1,7 @@
 -- The parts of the line, one after the other. Assumes nothing.
 use mathlib.Core.Path.{_∙_}
 use native.Mathlib.Omega.{arith}
+use lib.Ieee.{binary32}
 use Rattle.lines.specs.Lines.{lineOf}
 use Rattle.lines.specs.Text.{decimalOf}
 use Rattle.lines.proofs.Puts.{then, within, decimal-length}
@@ -21,10 +22,10 @@ put-floats-requires : tie.Need-put-floats-requires
 put-floats-requires c κs = omega (arith, within 20 (c .before .before .before .before .before .before .before .before .before .before .before .before .put-decimal .ensures) (decimal-length _ _), c .before .before .before .before .before .before .before .before .before .before .before .before .put-decimal .kept .0, c .before .before .before .before .before .before .before .before .put-byte .ensures .place, c .before .before .before .before .before .before .before .before .put-byte .kept .0, c .before .before .before .put-byte2 .ensures .place, c .before .before .before .put-byte2 .kept .0)
 
 put-counts-requires : tie.Need-put-counts-requires
-put-counts-requires c κs = omega (arith, within 20 (c .before .before .before .before .before .before .before .before .before .before .before .before .before .before .before .before .put-decimal .ensures) (decimal-length _ _), c .before .before .before .before .before .before .before .before .before .before .before .before .before .before .before .before .put-decimal .kept .0, c .before .before .before .before .before .before .before .before .before .before .before .before .put-byte .ensures .place, c .before .before .before .before .before .before .before .before .before .before .before .before .put-byte .kept .0, c .before .before .before .before .before .before .before .put-byte2 .ensures .place, c .before .before .before .before .before .before .before .put-byte2 .kept .0, within 81 (c .before .before .before .put-floats .ensures) (floats-length _), c .before .before .before .put-floats .kept .0)
+put-counts-requires c κs = omega (arith, within 20 (c .before .before .before .before .before .before .before .before .before .before .before .before .before .before .before .before .put-decimal .ensures) (decimal-length _ _), c .before .before .before .before .before .before .before .before .before .before .before .before .before .before .before .before .put-decimal .kept .0, c .before .before .before .before .before .before .before .before .before .before .before .before .put-byte .ensures .place, c .before .before .before .before .before .before .before .before .before .before .before .before .put-byte .kept .0, c .before .before .before .before .before .before .before .put-byte2 .ensures .place, c .before .before .before .before .before .before .before .put-byte2 .kept .0, within 81 (c .before .before .before .put-floats .ensures) (floats-length binary32 _), c .before .before .before .put-floats .kept .0)
 
 put-byte-requires-3 : tie.Need-put-byte-requires-3
-put-byte-requires-3 c κs = omega (arith, within 20 (c .before .before .before .before .before .before .before .before .before .before .before .before .before .before .before .before .before .before .before .before .put-decimal .ensures) (decimal-length _ _), c .before .before .before .before .before .before .before .before .before .before .before .before .before .before .before .before .before .before .before .before .put-decimal .kept .0, c .before .before .before .before .before .before .before .before .before .before .before .before .before .before .before .before .put-byte .ensures .place, c .before .before .before .before .before .before .before .before .before .before .before .before .before .before .before .before .put-byte .kept .0, c .before .before .before .before .before .before .before .before .before .before .before .put-byte2 .ensures .place, c .before .before .before .before .before .before .before .before .before .before .before .put-byte2 .kept .0, within 81 (c .before .before .before .before .before .before .before .put-floats .ensures) (floats-length _), c .before .before .before .before .before .before .before .put-floats .kept .0, within 84 (c .before .before .before .put-counts .ensures) (four-length _), c .before .before .before .put-counts .kept .0)
+put-byte-requires-3 c κs = omega (arith, within 20 (c .before .before .before .before .before .before .before .before .before .before .before .before .before .before .before .before .before .before .before .before .put-decimal .ensures) (decimal-length _ _), c .before .before .before .before .before .before .before .before .before .before .before .before .before .before .before .before .before .before .before .before .put-decimal .kept .0, c .before .before .before .before .before .before .before .before .before .before .before .before .before .before .before .before .put-byte .ensures .place, c .before .before .before .before .before .before .before .before .before .before .before .before .before .before .before .before .put-byte .kept .0, c .before .before .before .before .before .before .before .before .before .before .before .put-byte2 .ensures .place, c .before .before .before .before .before .before .before .before .before .before .before .put-byte2 .kept .0, within 81 (c .before .before .before .before .before .before .before .put-floats .ensures) (floats-length binary32 _), c .before .before .before .before .before .before .before .put-floats .kept .0, within 84 (c .before .before .before .put-counts .ensures) (four-length _), c .before .before .before .put-counts .kept .0)
 
 same-length : tie.Need-same-length
 same-length c = c .before .before .put-byte3 .kept .0 ∙ c .before .before .before .before .before .before .put-counts .kept .0 ∙ c .before .before .before .before .before .before .before .before .before .before .put-floats .kept .0 ∙ c .before .before .before .before .before .before .before .before .before .before .before .before .before .before .put-byte2 .kept .0 ∙ c .before .before .before .before .before .before .before .before .before .before .before .before .before .before .before .before .before .before .before .put-byte .kept .0 ∙ c .before .before .before .before .before .before .before .before .before .before .before .before .before .before .before .before .before .before .before .before .before .before .before .put-decimal .kept .0

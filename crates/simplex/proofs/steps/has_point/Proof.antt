@@ -20,7 +20,7 @@ loop-holds c = (search needs, search needs, refl)
 
 loop-again : tie.Need-loop-again Inv-loop μ-loop
 unfolding hasPoint
-loop-again c = (search needs, search needs, simp (add-one, c .equals .ensures, c .before .before .before .loop .inv .2))
+loop-again c = (search needs, search needs, simp (add-one, ← c .before .before .before .loop .inv .2, ← c .equals .ensures))
 
 returns : tie.Need-returns Inv-loop μ-loop
 returns c = let l = c .before .loop in rw (l .inv .2) (ap (hasPoint _ _) (omega arith))

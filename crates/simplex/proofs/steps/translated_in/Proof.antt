@@ -21,7 +21,7 @@ loop-holds c = (search needs, search needs, refl)
 
 loop-again : tie.Need-loop-again Inv-loop μ-loop
 unfolding translatedIn
-loop-again c = (search needs, search needs, simp (add-one, c .translate .ensures, c .before .before .before .loop .inv .2))
+loop-again c = (search needs, search needs, simp (add-one, ← c .before .before .before .loop .inv .2, ← c .translate .ensures))
 
 returns : tie.Need-returns Inv-loop μ-loop
 returns c = let l = c .before .loop in rw (l .inv .2) (ap (translatedIn binary32 _ _) (omega arith))

@@ -44,19 +44,19 @@ use Rattle.shape.specs.declared.vertex.Vertex.{Vertex}
 use Rattle.shape.proofs.vertex.Vertex as X
 use Rattle.shape.proofs.vertex.Vertex.Laws as X′
 use Rattle.simplex.specs.Operations.{addPoint}
-use Rattle.simplex.specs.declared.simplex.VoronoiSimplex.{VoronoiSimplex}
+use Rattle.simplex.specs.declared.voronoi_simplex.VoronoiSimplex.{VoronoiSimplex}
 use Rattle.simplex.specs.declared.operations.Answer.{Answer}
 use Rattle.simplex.specs.declared.operations.Added.{Added}
 use Rattle.simplex.proofs.operations.Answer as E
 use Rattle.simplex.proofs.operations.Answer.Laws as E′
 use Rattle.simplex.proofs.operations.Added as B
 use Rattle.simplex.proofs.operations.Added.Laws as B′
-use Rattle.simplex.proofs.simplex.VoronoiSimplex as T
-use Rattle.simplex.proofs.simplex.VoronoiSimplex.Laws as T′
-use Rattle.simplex.proofs.simplex.VoronoiSimplex.add_point as core
-use Rattle.simplex.proofs.simplex.VoronoiSimplex.add_point.Symbol as core-def
-use Rattle.simplex.proofs.simplex.VoronoiSimplex.add_point.Symbol.{name as #by-value}
-use Rattle.simplex.proofs.simplex.VoronoiSimplex.add_point.Met as core-thm
+use Rattle.simplex.proofs.voronoi_simplex.VoronoiSimplex as T
+use Rattle.simplex.proofs.voronoi_simplex.VoronoiSimplex.Laws as T′
+use Rattle.simplex.proofs.voronoi_simplex.VoronoiSimplex.add_point as core
+use Rattle.simplex.proofs.voronoi_simplex.VoronoiSimplex.add_point.Symbol as core-def
+use Rattle.simplex.proofs.voronoi_simplex.VoronoiSimplex.add_point.Symbol.{name as #by-value}
+use Rattle.simplex.proofs.voronoi_simplex.VoronoiSimplex.add_point.Met as core-thm
 use Rattle.simplex_lent.proofs.lent.add_point.Key.{name as #lent}
 use Rattle.simplex_lent.proofs.lent.add_point as lent
 use Rattle.simplex_lent.proofs.lent.add_point.Statement as stated
@@ -174,4 +174,4 @@ add-point-spec 𝓤 H 𝓜 𝓖 𝓡 =
     entered 𝓤 H (tripleOf 𝓤 H (𝓖 .A) lent.signature (lent.spec 𝓤 H (𝓖 .A) (𝓜 .mem) (𝓡 .run)))
     (tables 𝓤 H 𝓜 𝓡 code.env .C) (tables 𝓤 H 𝓜 𝓡 code.env .Λ) #lent code.function (code.unfolded 𝓤 H 𝓜 𝓡)
     (lent-meets 𝓤 H (𝓖 .A) (givenOf 𝓤 H 𝓜 𝓖) (𝓜 .mem) (𝓡 .run) (tablesOf 𝓤 H 𝓜 (tables 𝓤 H 𝓜 𝓡 code.env))
-    (cited 𝓤 H (Core 𝓤 H (𝓖 .A) (𝓜 .mem) (𝓡 .run)) 𝓜 𝓡 code.env #by-value core-def.routine code.calls-simplex·simplex·VoronoiSimplex·add-point (core-thm.met 𝓤 H 𝓜 𝓖 𝓡)))
+    (cited 𝓤 H (Core 𝓤 H (𝓖 .A) (𝓜 .mem) (𝓡 .run)) 𝓜 𝓡 code.env #by-value core-def.routine code.calls-simplex·voronoi-simplex·VoronoiSimplex·add-point (core-thm.met 𝓤 H 𝓜 𝓖 𝓡)))

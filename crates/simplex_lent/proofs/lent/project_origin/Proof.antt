@@ -39,12 +39,12 @@ use denote.Triple.Clauses.{ensured, lasts}
 use denote.Exit.{yes}
 use lib.Ieee.{binary32}
 use Rattle.reduction.specs.Reduction.{projectOrigin}
-use Rattle.simplex.specs.declared.simplex.VoronoiSimplex.{VoronoiSimplex}
+use Rattle.simplex.specs.declared.voronoi_simplex.VoronoiSimplex.{VoronoiSimplex}
 use Rattle.reduction.specs.declared.location.Projected.{Projected}
 use Rattle.reduction.proofs.location.Projected as E
 use Rattle.reduction.proofs.location.Projected.Laws as E′
-use Rattle.simplex.proofs.simplex.VoronoiSimplex as T
-use Rattle.simplex.proofs.simplex.VoronoiSimplex.Laws as T′
+use Rattle.simplex.proofs.voronoi_simplex.VoronoiSimplex as T
+use Rattle.simplex.proofs.voronoi_simplex.VoronoiSimplex.Laws as T′
 use Rattle.reduction.proofs.project_origin as core
 use Rattle.reduction.proofs.project_origin.Symbol as core-def
 use Rattle.reduction.proofs.project_origin.Symbol.{name as #by-value}

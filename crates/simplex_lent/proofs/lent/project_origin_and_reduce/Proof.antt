@@ -40,15 +40,15 @@ use denote.Triple.Walked.{says, Stays, stay-ref, walkOf, AllGo, goes-ref, Walks,
 use denote.Triple.Clauses.{ensured, lasts}
 use lib.Ieee.{binary32}
 use Rattle.reduction.specs.Reduction.{projectOriginAndReduce}
-use Rattle.simplex.specs.declared.simplex.VoronoiSimplex.{VoronoiSimplex}
+use Rattle.simplex.specs.declared.voronoi_simplex.VoronoiSimplex.{VoronoiSimplex}
 use Rattle.reduction.specs.declared.location.Projected.{Projected}
 use Rattle.reduction.proofs.location.Projected as E
 use Rattle.reduction.proofs.location.Projected.Laws as E′
 use Rattle.simplex_lent.specs.declared.turns.Reduced.{Reduced}
 use Rattle.simplex_lent.proofs.turns.Reduced as B
 use Rattle.simplex_lent.proofs.turns.Reduced.Laws as B′
-use Rattle.simplex.proofs.simplex.VoronoiSimplex as T
-use Rattle.simplex.proofs.simplex.VoronoiSimplex.Laws as T′
+use Rattle.simplex.proofs.voronoi_simplex.VoronoiSimplex as T
+use Rattle.simplex.proofs.voronoi_simplex.VoronoiSimplex.Laws as T′
 use Rattle.simplex_lent.proofs.turns.in_turn as core
 use Rattle.simplex_lent.proofs.turns.in_turn.Symbol as core-def
 use Rattle.simplex_lent.proofs.turns.in_turn.Symbol.{name as #by-value}

@@ -43,19 +43,19 @@ use Rattle.shape.specs.declared.vertex.Vertex.{Vertex}
 use Rattle.shape.proofs.vertex.Vertex as X
 use Rattle.shape.proofs.vertex.Vertex.Laws as X′
 use Rattle.simplex.specs.Operations.{resetSimplex}
-use Rattle.simplex.specs.declared.simplex.VoronoiSimplex.{VoronoiSimplex}
+use Rattle.simplex.specs.declared.voronoi_simplex.VoronoiSimplex.{VoronoiSimplex}
 use Rattle.simplex.specs.declared.operations.Outcome.{Outcome}
 use Rattle.simplex.specs.declared.operations.Altered.{Altered}
 use Rattle.simplex.proofs.operations.Outcome as E
 use Rattle.simplex.proofs.operations.Outcome.Laws as E′
 use Rattle.simplex.proofs.operations.Altered as B
 use Rattle.simplex.proofs.operations.Altered.Laws as B′
-use Rattle.simplex.proofs.simplex.VoronoiSimplex as T
-use Rattle.simplex.proofs.simplex.VoronoiSimplex.Laws as T′
-use Rattle.simplex.proofs.simplex.VoronoiSimplex.reset as core
-use Rattle.simplex.proofs.simplex.VoronoiSimplex.reset.Symbol as core-def
-use Rattle.simplex.proofs.simplex.VoronoiSimplex.reset.Symbol.{name as #by-value}
-use Rattle.simplex.proofs.simplex.VoronoiSimplex.reset.Met as core-thm
+use Rattle.simplex.proofs.voronoi_simplex.VoronoiSimplex as T
+use Rattle.simplex.proofs.voronoi_simplex.VoronoiSimplex.Laws as T′
+use Rattle.simplex.proofs.voronoi_simplex.VoronoiSimplex.reset as core
+use Rattle.simplex.proofs.voronoi_simplex.VoronoiSimplex.reset.Symbol as core-def
+use Rattle.simplex.proofs.voronoi_simplex.VoronoiSimplex.reset.Symbol.{name as #by-value}
+use Rattle.simplex.proofs.voronoi_simplex.VoronoiSimplex.reset.Met as core-thm
 use Rattle.simplex_lent.proofs.lent.reset.Key.{name as #lent}
 use Rattle.simplex_lent.proofs.lent.reset as lent
 use Rattle.simplex_lent.proofs.lent.reset.Statement as stated
@@ -173,4 +173,4 @@ reset-spec 𝓤 H 𝓜 𝓖 𝓡 =
     entered 𝓤 H (tripleOf 𝓤 H (𝓖 .A) lent.signature (lent.spec 𝓤 H (𝓖 .A) (𝓜 .mem) (𝓡 .run)))
     (tables 𝓤 H 𝓜 𝓡 code.env .C) (tables 𝓤 H 𝓜 𝓡 code.env .Λ) #lent code.function (code.unfolded 𝓤 H 𝓜 𝓡)
     (lent-meets 𝓤 H (𝓖 .A) (givenOf 𝓤 H 𝓜 𝓖) (𝓜 .mem) (𝓡 .run) (tablesOf 𝓤 H 𝓜 (tables 𝓤 H 𝓜 𝓡 code.env))
-    (cited 𝓤 H (Core 𝓤 H (𝓖 .A) (𝓜 .mem) (𝓡 .run)) 𝓜 𝓡 code.env #by-value core-def.routine code.calls-simplex·simplex·VoronoiSimplex·reset (core-thm.met 𝓤 H 𝓜 𝓖 𝓡)))
+    (cited 𝓤 H (Core 𝓤 H (𝓖 .A) (𝓜 .mem) (𝓡 .run)) 𝓜 𝓡 code.env #by-value core-def.routine code.calls-simplex·voronoi-simplex·VoronoiSimplex·reset (core-thm.met 𝓤 H 𝓜 𝓖 𝓡)))

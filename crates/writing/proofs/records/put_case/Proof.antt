@@ -1,6 +1,7 @@
 -- The parts of the record, one after the other. Assumes nothing.
 use mathlib.Core.Path.{_∙_}
 use native.Mathlib.Omega.{arith}
+use lib.Ieee.{binary32}
 use Rattle.casefile.specs.Records.{wordsOf}
 use Rattle.lines.proofs.Puts.{within}
 use Rattle.writing.proofs.Encodings.{then-all, all-length, shape-length}
@@ -11,19 +12,19 @@ put-shape-requires : tie.Need-put-shape-requires
 put-shape-requires c κs = omega arith
 
 put-shape-requires-2 : tie.Need-put-shape-requires-2
-put-shape-requires-2 c κs = omega (arith, within 50 (c .before .before .before .put-shape .ensures) (shape-length _), c .before .before .before .put-shape .kept .0)
+put-shape-requires-2 c κs = omega (arith, within 50 (c .before .before .before .put-shape .ensures) (shape-length binary32 _), c .before .before .before .put-shape .kept .0)
 
 put-pose-requires : tie.Need-put-pose-requires
-put-pose-requires c κs = omega (arith, within 50 (c .before .before .before .before .before .before .before .put-shape .ensures) (shape-length _), c .before .before .before .before .before .before .before .put-shape .kept .0, within 50 (c .before .before .before .put-shape2 .ensures) (shape-length _), c .before .before .before .put-shape2 .kept .0)
+put-pose-requires c κs = omega (arith, within 50 (c .before .before .before .before .before .before .before .put-shape .ensures) (shape-length binary32 _), c .before .before .before .before .before .before .before .put-shape .kept .0, within 50 (c .before .before .before .put-shape2 .ensures) (shape-length binary32 _), c .before .before .before .put-shape2 .kept .0)
 
 put-vector-requires : tie.Need-put-vector-requires
-put-vector-requires c κs = omega (arith, within 50 (c .before .before .before .before .before .before .before .before .before .before .before .put-shape .ensures) (shape-length _), c .before .before .before .before .before .before .before .before .before .before .before .put-shape .kept .0, within 50 (c .before .before .before .before .before .before .before .put-shape2 .ensures) (shape-length _), c .before .before .before .before .before .before .before .put-shape2 .kept .0, within 35 (c .before .before .before .put-pose .ensures) (all-length _), c .before .before .before .put-pose .kept .0)
+put-vector-requires c κs = omega (arith, within 50 (c .before .before .before .before .before .before .before .before .before .before .before .put-shape .ensures) (shape-length binary32 _), c .before .before .before .before .before .before .before .before .before .before .before .put-shape .kept .0, within 50 (c .before .before .before .before .before .before .before .put-shape2 .ensures) (shape-length binary32 _), c .before .before .before .before .before .before .before .put-shape2 .kept .0, within 35 (c .before .before .before .put-pose .ensures) (all-length _), c .before .before .before .put-pose .kept .0)
 
 put-float-requires : tie.Need-put-float-requires
-put-float-requires c κs = omega (arith, within 50 (c .before .before .before .before .before .before .before .before .before .before .before .before .before .before .before .put-shape .ensures) (shape-length _), c .before .before .before .before .before .before .before .before .before .before .before .before .before .before .before .put-shape .kept .0, within 50 (c .before .before .before .before .before .before .before .before .before .before .before .put-shape2 .ensures) (shape-length _), c .before .before .before .before .before .before .before .before .before .before .before .put-shape2 .kept .0, within 35 (c .before .before .before .before .before .before .before .put-pose .ensures) (all-length _), c .before .before .before .before .before .before .before .put-pose .kept .0, within 15 (c .before .before .before .put-vector .ensures) (all-length _), c .before .before .before .put-vector .kept .0)
+put-float-requires c κs = omega (arith, within 50 (c .before .before .before .before .before .before .before .before .before .before .before .before .before .before .before .put-shape .ensures) (shape-length binary32 _), c .before .before .before .before .before .before .before .before .before .before .before .before .before .before .before .put-shape .kept .0, within 50 (c .before .before .before .before .before .before .before .before .before .before .before .put-shape2 .ensures) (shape-length binary32 _), c .before .before .before .before .before .before .before .before .before .before .before .put-shape2 .kept .0, within 35 (c .before .before .before .before .before .before .before .put-pose .ensures) (all-length _), c .before .before .before .before .before .before .before .put-pose .kept .0, within 15 (c .before .before .before .put-vector .ensures) (all-length _), c .before .before .before .put-vector .kept .0)
 
 put-word-requires : tie.Need-put-word-requires
-put-word-requires c κs = omega (arith, within 50 (c .before .before .before .before .before .before .before .before .before .before .before .before .before .before .before .before .before .before .before .before .put-shape .ensures) (shape-length _), c .before .before .before .before .before .before .before .before .before .before .before .before .before .before .before .before .before .before .before .before .put-shape .kept .0, within 50 (c .before .before .before .before .before .before .before .before .before .before .before .before .before .before .before .before .put-shape2 .ensures) (shape-length _), c .before .before .before .before .before .before .before .before .before .before .before .before .before .before .before .before .put-shape2 .kept .0, within 35 (c .before .before .before .before .before .before .before .before .before .before .before .before .put-pose .ensures) (all-length _), c .before .before .before .before .before .before .before .before .before .before .before .before .put-pose .kept .0, within 15 (c .before .before .before .before .before .before .before .before .put-vector .ensures) (all-length _), c .before .before .before .before .before .before .before .before .put-vector .kept .0, within 5 (c .before .before .before .before .put-float .ensures) (all-length _), c .before .before .before .before .put-float .kept .0)
+put-word-requires c κs = omega (arith, within 50 (c .before .before .before .before .before .before .before .before .before .before .before .before .before .before .before .before .before .before .before .before .put-shape .ensures) (shape-length binary32 _), c .before .before .before .before .before .before .before .before .before .before .before .before .before .before .before .before .before .before .before .before .put-shape .kept .0, within 50 (c .before .before .before .before .before .before .before .before .before .before .before .before .before .before .before .before .put-shape2 .ensures) (shape-length binary32 _), c .before .before .before .before .before .before .before .before .before .before .before .before .before .before .before .before .put-shape2 .kept .0, within 35 (c .before .before .before .before .before .before .before .before .before .before .before .before .put-pose .ensures) (all-length _), c .before .before .before .before .before .before .before .before .before .before .before .before .put-pose .kept .0, within 15 (c .before .before .before .before .before .before .before .before .put-vector .ensures) (all-length _), c .before .before .before .before .before .before .before .before .put-vector .kept .0, within 5 (c .before .before .before .before .put-float .ensures) (all-length _), c .before .before .before .before .put-float .kept .0)
 
 same-length : tie.Need-same-length
 same-length c = c .before .before .put-word .kept .0 ∙ c .before .before .before .before .before .before .before .put-float .kept .0 ∙ c .before .before .before .before .before .before .before .before .before .before .before .put-vector .kept .0 ∙ c .before .before .before .before .before .before .before .before .before .before .before .before .before .before .before .put-pose .kept .0 ∙ c .before .before .before .before .before .before .before .before .before .before .before .before .before .before .before .before .before .before .before .put-shape2 .kept .0 ∙ c .before .before .before .before .before .before .before .before .before .before .before .before .before .before .before .before .before .before .before .before .before .before .before .put-shape .kept .0
