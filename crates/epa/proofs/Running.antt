@@ -16,7 +16,7 @@ use Rattle.epa_polytope.specs.Run.{expansions, epa, run, closestPoints}
 use Rattle.epa_polytope.specs.Contracts.{Does, beginOut, finishOut}
 use Rattle.epa.specs.declared.types.Answer.{Answer}
 use Rattle.epa.specs.Final.{final, finalOf, answerAt, penetration}
-use Rattle.epa.specs.Loop.{Started}
+use Rattle.epa_polytope.specs.Code.{Started}
 
 module _ (w : World) (x : VoronoiSimplex) {l l1 : Lists} {r : Begun} (g : Does beginOut (begin w x) l noneYet l1 r) where
   goes-on : {y : Begun} → r ≡ y → next (beginOut l1 y) (expansions w) ≡ epa w x (stateOf l noneYet)

@@ -1,3 +1,2 @@
--- What the contracts of this crate cite: of the whole run, and of its loop.
+-- What the contracts of this crate cite.
 pub mod Final
-pub mod Loop

@@ -1,7 +1,5 @@
 // What the calls of this crate answer.
 use epa_polytope::End;
-use epa_polytope::MaybeFaceId;
-use epa_polytope::Tally;
 
 // The counts of a whole run: expansions completed, faces made, faces live at the end, and the most edges
 // recorded in one pass.
@@ -16,10 +14,4 @@ pub struct Counts {
 pub struct Answer {
     pub end: End,
     pub counts: Counts,
-}
-
-// The entry of a live face that was popped, or none, and how far the run has come.
-pub struct Popped {
-    pub entry: MaybeFaceId,
-    pub tally: Tally,
 }

@@ -5,7 +5,7 @@ ghost use lib.Ieee.{binary32};
 ghost use Rattle.epa_polytope.specs.Stores.{withVertices, withFaceIds, withFaceFloats, withDeleted, withHeap};
 ghost use Rattle.epa_polytope.specs.Start.{exchanged, windsInward, fourFaces, queueStart, queueFour, startFour};
 ghost use Rattle.epa_polytope.specs.Contracts.{Leaves, when, single};
-ghost use Rattle.epa_first_faces.specs.Pairs.{queueTwo};
+ghost use Rattle.epa_polytope.specs.Code.{queueTwo};
 use crate::pairs::push_two;
 use epa_faces::made_of;
 use epa_polytope::End;

@@ -2,7 +2,7 @@
 // is proved of a function grows with the square of the calls that lend the lists.
 ghost use Rattle.epa_polytope.specs.Stores.{withFaceIds, withFaceFloats, withDeleted};
 ghost use Rattle.epa_polytope.specs.Contracts.{Leaves, when};
-ghost use Rattle.epa_first_faces.specs.Pairs.{pushTwo};
+ghost use Rattle.epa_polytope.specs.Code.{pushTwo};
 use epa_polytope::Made;
 use epa_polytope::Step;
 use epa_polytope::Tally;

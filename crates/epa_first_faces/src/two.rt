@@ -7,7 +7,7 @@ ghost use Rattle.epa_polytope.specs.Stores.{withVertices, withFaceIds, withFace
 ghost use Rattle.epa_polytope.specs.Steps.{doIf};
 ghost use Rattle.epa_polytope.specs.Start.{across, third, twoFaces, startTwo};
 ghost use Rattle.epa_polytope.specs.Contracts.{Leaves, when, single, singleWorld};
-ghost use Rattle.epa_first_faces.specs.Pairs.{queueBoth};
+ghost use Rattle.epa_polytope.specs.Code.{queueBoth};
 use crate::pairs::push_two;
 use epa_faces::made_of;
 use epa_polytope::End;

@@ -28,3 +28,15 @@ pub mod TwinRuns
 pub mod Agreeing
 pub mod Agreement
 pub mod Doing
+pub mod Pushing
+pub mod Growing
+pub mod Pairing
+pub mod StartingFour
+pub mod StartingTwo
+pub mod Beginning
+pub mod Searching
+pub mod Starting
+pub mod Expanding
+pub mod Visiting
+pub mod Popping
+pub mod Looping

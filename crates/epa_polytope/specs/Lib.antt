@@ -11,3 +11,4 @@ pub mod Rule
 pub mod Demand3
 pub mod Same
 pub mod Contracts
+pub mod Code

@@ -12,6 +12,8 @@ pub use types::Found;
 pub use types::Lost;
 pub use types::Made;
 pub use types::MaybeFaceId;
+pub use types::MaybeVertex;
+pub use types::Popped;
 pub use types::Question;
 pub use types::Site;
 pub use types::Step;

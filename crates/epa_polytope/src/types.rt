@@ -1,5 +1,6 @@
 // What the polytope's run passes from hand to hand: questions of the walk, what a face is made of, how far
 // it has come, and how it ends. By value, but for the stores, which the caller lends.
+use shape::Vertex;
 use vector::Vec3;
 
 // A face, and a corner of it: whether the face is seen, asked across the side that the corner lies opposite
@@ -147,4 +148,16 @@ pub struct Best {
     pub face: usize,
     pub bound: f32,
     pub last: f32,
+}
+
+// The Rust's `Option<CsoPoint>`.
+pub enum MaybeVertex {
+    Some(Vertex),
+    None,
+}
+
+// The entry of a live face that was popped, or none, and how far the run has come.
+pub struct Popped {
+    pub entry: MaybeFaceId,
+    pub tally: Tally,
 }

@@ -3,7 +3,7 @@ ghost use mathlib.Core.Path.{_≡_};
 ghost use Rattle.epa_polytope.specs.Stores.{noneYet, withVertices, withFaceIds, withFaceFloats, withDeleted, withHeap};
 ghost use Rattle.epa_polytope.specs.Start.{begin};
 ghost use Rattle.epa_polytope.specs.Contracts.{Gives, beginOut, when, singleWorld};
-ghost use Rattle.epa_start.specs.Contracts.{readyOf};
+ghost use Rattle.epa_polytope.specs.Code.{readyOf};
 use crate::vertices::dist_tol;
 use crate::vertices::start_vertices;
 use epa_first_faces::start_faces;

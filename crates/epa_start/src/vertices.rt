@@ -5,9 +5,10 @@ ghost use lib.Ieee.{binary32};
 ghost use Rattle.epa_polytope.specs.Stores.{withVertices};
 ghost use Rattle.epa_polytope.specs.Start.{pushPoints, direction, farFrom, bootstrap, scaleOf, distTol};
 ghost use Rattle.epa_polytope.specs.Contracts.{Leaves, when, singleWorld};
-ghost use Rattle.epa_start.specs.Contracts.{secondOf, simplexVertices};
+ghost use Rattle.epa_polytope.specs.Code.{secondOf, simplexVertices};
 use epa_polytope::End;
 use epa_polytope::Found;
+use epa_polytope::MaybeVertex;
 use epa_polytope::Site;
 use epa_polytope::Step;
 use epa_polytope::Tally;
@@ -19,12 +20,6 @@ use shape::from_shapes;
 use simplex::VoronoiSimplex;
 use vector::Pose;
 use vector::Vec3;
-
-// The Rust's `Option<CsoPoint>`.
-pub enum MaybeVertex {
-    Some(Vertex),
-    None,
-}
 
 // The vertices of the simplex, in order.
 fn push_points(vertices: &mut [f32], start: Tally, simplex: VoronoiSimplex) -> Step

@@ -2,7 +2,7 @@
 use mathlib.Core.Path.{refl}
 use Rattle.epa_polytope.specs.Contracts.{single}
 use Rattle.epa_polytope.proofs.Doing.{here, place}
-use Rattle.epa_growth.proofs.Growing.{grow-live, grow-dead}
+use Rattle.epa_polytope.proofs.Growing.{grow-live, grow-dead}
 use Rattle.epa_growth.proofs.grow.Statement.{statement}
 use Rattle.epa_growth.proofs.grow.Tie as tie
 

@@ -7,7 +7,7 @@ use lib.ListN.{length}
 use Rattle.epa_polytope.specs.Stores.{lend}
 use Rattle.epa_polytope.specs.Contracts.{single}
 use Rattle.epa_polytope.proofs.Doing.{place}
-use Rattle.epa_growth.proofs.Growing.{GrowLoop, loop-starts, loop-turns, loop-ends, loop-done}
+use Rattle.epa_polytope.proofs.Growing.{GrowLoop, loop-starts, loop-turns, loop-ends, loop-done}
 use Rattle.epa_growth.proofs.grow_all.Statement.{statement}
 use Rattle.epa_growth.proofs.grow_all.Tie as tie
 

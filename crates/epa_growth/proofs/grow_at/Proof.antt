@@ -7,7 +7,7 @@ use borrow.Author.Needs.{needs}
 use Rattle.epa_polytope.specs.Stores.{Lists, withVertices, withFaceIds, withFaceFloats, withDeleted, withHeap}
 use Rattle.epa_polytope.specs.Contracts.{single}
 use Rattle.epa_polytope.proofs.Doing.{here, place}
-use Rattle.epa_growth.proofs.Growing.{FacePushed, face-pushed, grow-refused, grow-queued, grow-plain}
+use Rattle.epa_polytope.proofs.Growing.{FacePushed, face-pushed, grow-refused, grow-queued, grow-plain}
 use Rattle.epa_growth.proofs.grow_at.Statement.{statement}
 use Rattle.epa_growth.proofs.grow_at.Tie as tie
 

@@ -4,7 +4,7 @@ use Rattle.epa_polytope.specs.Contracts.{single}
 use Rattle.epa_polytope.specs.Steps.{answerOf}
 use Rattle.epa_polytope.specs.declared.types.Found.the-variants.{NewFaceNearer}
 use Rattle.epa_polytope.proofs.Doing.{here, read-here, place}
-use Rattle.epa_growth.proofs.Growing.{new-nearer, new-queued}
+use Rattle.epa_polytope.proofs.Growing.{new-nearer, new-queued}
 use Rattle.epa_growth.proofs.queue_new.Statement.{statement}
 use Rattle.epa_growth.proofs.queue_new.Tie as tie
 

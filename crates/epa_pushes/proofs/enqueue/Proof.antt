@@ -1,7 +1,7 @@
 -- `enqueue` does what the step `enqueue` does: the heap's room, and the entry. Assumes nothing.
 use borrow.Author.Needs.{needs}
 use Rattle.epa_polytope.proofs.Doing.{place}
-use Rattle.epa_pushes.proofs.Pushing.{heap-refused, queued}
+use Rattle.epa_polytope.proofs.Pushing.{heap-refused, queued}
 use Rattle.epa_pushes.proofs.enqueue.Statement.{statement}
 use Rattle.epa_pushes.proofs.enqueue.Tie as tie
 

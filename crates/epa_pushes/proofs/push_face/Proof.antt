@@ -2,7 +2,7 @@
 use borrow.Author.Needs.{needs}
 use Rattle.epa_polytope.proofs.Doing.{place}
 use mathlib.Core.Path.{refl}
-use Rattle.epa_pushes.proofs.Pushing.{face-refused, face-written}
+use Rattle.epa_polytope.proofs.Pushing.{face-refused, face-written}
 use Rattle.epa_pushes.proofs.push_face.Statement.{statement}
 use Rattle.epa_pushes.proofs.push_face.Tie as tie
 

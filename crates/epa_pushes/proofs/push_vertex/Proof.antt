@@ -1,7 +1,7 @@
 -- `push_vertex` does what `pushVertex` does: it is refused, or the vertex is written. Assumes nothing.
 use borrow.Author.Needs.{needs}
 use Rattle.epa_polytope.proofs.Doing.{place}
-use Rattle.epa_pushes.proofs.Pushing.{vertex-refused, vertex-written}
+use Rattle.epa_polytope.proofs.Pushing.{vertex-refused, vertex-written}
 use Rattle.epa_pushes.proofs.push_vertex.Statement.{statement}
 use Rattle.epa_pushes.proofs.push_vertex.Tie as tie
 

@@ -3,7 +3,7 @@ use mathlib.Core.Path.{_∙_}
 use Prim.Native.Nat.{_*_}
 use borrow.Author.Needs.{needs}
 use Rattle.epa_polytope.proofs.Doing.{place}
-use Rattle.epa_pushes.proofs.Pushing.{six-written}
+use Rattle.epa_polytope.proofs.Pushing.{six-written}
 use Rattle.epa_pushes.proofs.put_face.Statement.{statement}
 use Rattle.epa_pushes.proofs.put_face.Tie as tie
 

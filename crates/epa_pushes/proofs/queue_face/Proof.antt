@@ -1,7 +1,7 @@
 -- `queue_face` does what `queueFace` does: the key, and the entry. Assumes nothing.
 use borrow.Author.Needs.{needs}
 use Rattle.epa_polytope.proofs.Doing.{place}
-use Rattle.epa_pushes.proofs.Pushing.{key-refused, key-accepted}
+use Rattle.epa_polytope.proofs.Pushing.{key-refused, key-accepted}
 use Rattle.epa_pushes.proofs.queue_face.Statement.{statement}
 use Rattle.epa_pushes.proofs.queue_face.Tie as tie
 

@@ -7,7 +7,7 @@ use Rattle.epa_polytope.specs.declared.types.Best.{Best}
 use Rattle.epa_polytope.specs.declared.types.Tally.{Tally}
 use Rattle.epa_polytope.specs.declared.types.Visited.{Visited}
 use Rattle.epa_polytope.specs.declared.types.Visited.the-variants as Visited
-use Rattle.epa.specs.Loop.{Early}
+use Rattle.epa_polytope.specs.Code.{Early}
 use Rattle.epa.proofs.expansions.completed.Statement.{statement}
 use Rattle.epa.proofs.expansions.completed.Tie as tie
 

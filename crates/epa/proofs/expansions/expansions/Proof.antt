@@ -9,7 +9,7 @@ use Rattle.epa_polytope.specs.Steps.{answerOf}
 use Rattle.epa_polytope.specs.declared.types.Found.the-variants.{EnoughExpansions}
 use Rattle.epa_polytope.proofs.Doing.{read-here, place}
 use Rattle.epa.specs.Final.{listsOf}
-use Rattle.epa.proofs.Looping.{ExpandLoop, loop-starts, turn-ready, loop-ends, loop-turns, loop-done}
+use Rattle.epa_polytope.proofs.Looping.{ExpandLoop, loop-starts, turn-ready, loop-ends, loop-turns, loop-done}
 use Rattle.epa.proofs.expansions.expansions.Statement.{statement}
 use Rattle.epa.proofs.expansions.expansions.Tie as tie
 

@@ -8,8 +8,8 @@ use Rattle.epa_polytope.specs.Steps.{answerOf}
 use Rattle.epa_polytope.specs.declared.types.Found.the-variants.{HeapEmpty}
 use Rattle.epa_polytope.proofs.Doing.{here, read-here, place}
 use Rattle.epa.specs.Final.{listsOf}
-use Rattle.epa.specs.Loop.{Early}
-use Rattle.epa.proofs.Looping.{none-left, iterated, visited-early}
+use Rattle.epa_polytope.specs.Code.{Early}
+use Rattle.epa_polytope.proofs.Looping.{none-left, iterated, visited-early}
 use Rattle.epa.proofs.expansions.iterate.Statement.{statement}
 use Rattle.epa.proofs.expansions.iterate.Tie as tie
 

@@ -2,7 +2,7 @@
 use mathlib.Core.Path.{_∙_}
 use borrow.Author.Needs.{needs}
 use Rattle.epa_polytope.proofs.Doing.{place}
-use Rattle.epa.proofs.Popping.{PopLoop, pop-starts, pop-empty, pop-live, pop-less, pop-again}
+use Rattle.epa_polytope.proofs.Popping.{PopLoop, pop-starts, pop-empty, pop-live, pop-less, pop-again}
 use Rattle.epa.proofs.expansions.pop_live.Statement.{statement}
 use Rattle.epa.proofs.expansions.pop_live.Tie as tie
 

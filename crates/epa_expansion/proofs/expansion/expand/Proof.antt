@@ -3,7 +3,7 @@ use borrow.Author.Needs.{needs}
 use mathlib.Core.Path.{refl, _∙_}
 use Rattle.epa_polytope.specs.Contracts.{single}
 use Rattle.epa_polytope.proofs.Doing.{here, place}
-use Rattle.epa_expansion.proofs.Expanding.{expand-ended, expanded}
+use Rattle.epa_polytope.proofs.Expanding.{expand-ended, expanded}
 use Rattle.epa_expansion.proofs.expansion.expand.Statement.{statement}
 use Rattle.epa_expansion.proofs.expansion.expand.Tie as tie
 

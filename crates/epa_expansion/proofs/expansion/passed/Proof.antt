@@ -1,6 +1,6 @@
 -- What `passed` returns: the greater of two numbers is the one that the test finds. Assumes nothing.
 use Rattle.epa_polytope.proofs.Doing.{place}
-use Rattle.epa_expansion.proofs.Expanding.{passed-more, passed-same}
+use Rattle.epa_polytope.proofs.Expanding.{passed-more, passed-same}
 use Rattle.epa_expansion.proofs.expansion.passed.Statement.{statement}
 use Rattle.epa_expansion.proofs.expansion.passed.Tie as tie
 

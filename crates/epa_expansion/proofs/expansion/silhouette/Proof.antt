@@ -4,7 +4,7 @@ use borrow.Author.Needs.{needs}
 use Rattle.epa_polytope.specs.Stores.{Lists, withDeleted, withEdges}
 use Rattle.epa_polytope.specs.Contracts.{single}
 use Rattle.epa_polytope.proofs.Doing.{place}
-use Rattle.epa_expansion.proofs.Expanding.{lined, unlined}
+use Rattle.epa_polytope.proofs.Expanding.{lined, unlined}
 use Rattle.epa_expansion.proofs.expansion.silhouette.Statement.{statement}
 use Rattle.epa_expansion.proofs.expansion.silhouette.Tie as tie
 

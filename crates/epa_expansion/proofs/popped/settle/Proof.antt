@@ -5,7 +5,7 @@ use Rattle.epa_polytope.specs.Contracts.{single}
 use Rattle.epa_polytope.specs.Steps.{answerOf}
 use Rattle.epa_polytope.specs.declared.types.Found.the-variants.{Converged, Stuck}
 use Rattle.epa_polytope.proofs.Doing.{read-here, place}
-use Rattle.epa_expansion.proofs.Visiting.{converges, gets-stuck, settle-ended, settled}
+use Rattle.epa_polytope.proofs.Visiting.{converges, gets-stuck, settle-ended, settled}
 use Rattle.epa_expansion.proofs.popped.settle.Statement.{statement}
 use Rattle.epa_expansion.proofs.popped.settle.Tie as tie
 

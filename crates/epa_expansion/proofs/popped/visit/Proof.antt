@@ -2,7 +2,7 @@
 use borrow.Author.Needs.{needs}
 use mathlib.Core.Path.{refl}
 use Rattle.epa_polytope.proofs.Doing.{here, place}
-use Rattle.epa_expansion.proofs.Visiting.{visit-ended, visited}
+use Rattle.epa_polytope.proofs.Visiting.{visit-ended, visited}
 use Rattle.epa_expansion.proofs.popped.visit.Statement.{statement}
 use Rattle.epa_expansion.proofs.popped.visit.Tie as tie
 

@@ -1,6 +1,6 @@
 -- `clear_edges` does what `clearEdges` does: the edges' pairs are zero, and none is counted. Assumes nothing.
 use Rattle.epa_polytope.proofs.Doing.{place}
-use Rattle.epa_expansion.proofs.Expanding.{edges-cleared}
+use Rattle.epa_polytope.proofs.Expanding.{edges-cleared}
 use Rattle.epa_expansion.proofs.ring.clear_edges.Statement.{statement}
 use Rattle.epa_expansion.proofs.ring.clear_edges.Tie as tie
 

@@ -1,7 +1,7 @@
 -- `close_ring` does what `closeRing` does: no face was made, or two links close the ring. Assumes nothing.
 use mathlib.Core.Path.{refl, _∙_}
 use Rattle.epa_polytope.proofs.Doing.{here, place}
-use Rattle.epa_expansion.proofs.Expanding.{none-made, ring-closed}
+use Rattle.epa_polytope.proofs.Expanding.{none-made, ring-closed}
 use Rattle.epa_expansion.proofs.ring.close_ring.Statement.{statement}
 use Rattle.epa_expansion.proofs.ring.close_ring.Tie as tie
 

@@ -1,7 +1,7 @@
 -- What `exchange` leaves: two vertices read, and each written in the other's place. Assumes nothing.
 use mathlib.Core.Path.{_∙_}
 use Rattle.epa_polytope.proofs.Doing.{place}
-use Rattle.epa_first_faces.proofs.StartingFour.{exchange-written}
+use Rattle.epa_polytope.proofs.StartingFour.{exchange-written}
 use Rattle.epa_first_faces.proofs.four.exchange.Statement.{statement}
 use Rattle.epa_first_faces.proofs.four.exchange.Tie as tie
 

@@ -3,7 +3,7 @@ use borrow.Author.Needs.{needs}
 use mathlib.Core.Path.{_∙_}
 use Rattle.epa_polytope.specs.Start.{fourFaces}
 use Rattle.epa_polytope.proofs.Doing.{place}
-use Rattle.epa_first_faces.proofs.Pairing.{pair-goes-on, pair-ends}
+use Rattle.epa_polytope.proofs.Pairing.{pair-goes-on, pair-ends}
 use Rattle.epa_first_faces.proofs.four.four_faces.Statement.{statement}
 use Rattle.epa_first_faces.proofs.four.four_faces.Tie as tie
 

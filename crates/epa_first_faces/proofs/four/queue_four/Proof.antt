@@ -4,7 +4,7 @@ use mathlib.Core.Path.{_≡_, _∙_}
 use lib.ListN.{length}
 use Rattle.epa_polytope.specs.Contracts.{single}
 use Rattle.epa_polytope.proofs.Doing.{place}
-use Rattle.epa_first_faces.proofs.StartingFour.{first-pair-ends, second-pair-ends, one-holds, none-holds}
+use Rattle.epa_polytope.proofs.StartingFour.{first-pair-ends, second-pair-ends, one-holds, none-holds}
 use Rattle.epa_first_faces.proofs.four.queue_four.Statement.{statement}
 use Rattle.epa_first_faces.proofs.four.queue_four.Tie as tie
 

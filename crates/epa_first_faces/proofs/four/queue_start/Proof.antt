@@ -2,7 +2,7 @@
 use mathlib.Core.Path.{refl}
 use Rattle.epa_polytope.specs.Contracts.{single}
 use Rattle.epa_polytope.proofs.Doing.{here, place}
-use Rattle.epa_first_faces.proofs.StartingFour.{start-held, start-left}
+use Rattle.epa_polytope.proofs.StartingFour.{start-held, start-left}
 use Rattle.epa_first_faces.proofs.four.queue_start.Statement.{statement}
 use Rattle.epa_first_faces.proofs.four.queue_start.Tie as tie
 

@@ -3,7 +3,7 @@ use borrow.Author.Needs.{needs}
 use mathlib.Core.Path.{refl}
 use Rattle.epa_polytope.specs.Contracts.{single}
 use Rattle.epa_polytope.proofs.Doing.{here, place}
-use Rattle.epa_first_faces.proofs.StartingFour.{four-not-made, four-started}
+use Rattle.epa_polytope.proofs.StartingFour.{four-not-made, four-started}
 use Rattle.epa_first_faces.proofs.four.start_four.Statement.{statement}
 use Rattle.epa_first_faces.proofs.four.start_four.Tie as tie
 

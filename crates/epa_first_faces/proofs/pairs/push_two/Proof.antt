@@ -2,7 +2,7 @@
 use borrow.Author.Needs.{needs}
 use mathlib.Core.Path.{_∙_}
 use Rattle.epa_polytope.proofs.Doing.{goes-on, place}
-use Rattle.epa_first_faces.proofs.Pairing.{ends-so}
+use Rattle.epa_polytope.proofs.Pairing.{ends-so}
 use Rattle.epa_first_faces.proofs.pairs.push_two.Statement.{statement}
 use Rattle.epa_first_faces.proofs.pairs.push_two.Tie as tie
 

@@ -3,7 +3,7 @@ use borrow.Author.Needs.{needs}
 use mathlib.Core.Path.{_∙_}
 use lib.Ieee.{ofBits}
 use Rattle.epa_polytope.proofs.Doing.{goes-on, place}
-use Rattle.epa_first_faces.proofs.Pairing.{ends-so}
+use Rattle.epa_polytope.proofs.Pairing.{ends-so}
 use Rattle.epa_first_faces.proofs.two.queue_both.Statement.{statement}
 use Rattle.epa_first_faces.proofs.two.queue_both.Tie as tie
 

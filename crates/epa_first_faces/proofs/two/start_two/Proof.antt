@@ -2,7 +2,7 @@
 use borrow.Author.Needs.{needs}
 use mathlib.Core.Path.{refl}
 use Rattle.epa_polytope.proofs.Doing.{here, place}
-use Rattle.epa_first_faces.proofs.StartingTwo.{no-third, two-started}
+use Rattle.epa_polytope.proofs.StartingTwo.{no-third, two-started}
 use Rattle.epa_first_faces.proofs.two.start_two.Statement.{statement}
 use Rattle.epa_first_faces.proofs.two.start_two.Tie as tie
 

@@ -3,7 +3,7 @@ use borrow.Author.Needs.{needs}
 use lib.Ieee.{ofBits}
 use Rattle.vector.specs.Vector.{zeroV}
 use Rattle.epa_polytope.proofs.Doing.{place}
-use Rattle.epa_first_faces.proofs.StartingTwo.{spans-none, third-pushed}
+use Rattle.epa_polytope.proofs.StartingTwo.{spans-none, third-pushed}
 use Rattle.epa_first_faces.proofs.two.third.Statement.{statement}
 use Rattle.epa_first_faces.proofs.two.third.Tie as tie
 

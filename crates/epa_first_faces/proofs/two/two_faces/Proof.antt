@@ -3,7 +3,7 @@ use borrow.Author.Needs.{needs}
 use mathlib.Core.Path.{refl}
 use Rattle.epa_polytope.specs.Contracts.{single}
 use Rattle.epa_polytope.proofs.Doing.{here, place}
-use Rattle.epa_first_faces.proofs.StartingTwo.{two-not-made, two-made}
+use Rattle.epa_polytope.proofs.StartingTwo.{two-not-made, two-made}
 use Rattle.epa_first_faces.proofs.two.two_faces.Statement.{statement}
 use Rattle.epa_first_faces.proofs.two.two_faces.Tie as tie
 

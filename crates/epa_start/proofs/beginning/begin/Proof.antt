@@ -2,7 +2,7 @@
 use borrow.Author.Needs.{needs}
 use mathlib.Core.Path.{refl, _∙_}
 use Rattle.epa_polytope.proofs.Doing.{here, place}
-use Rattle.epa_start.proofs.Begun.{not-begun, begun}
+use Rattle.epa_polytope.proofs.Beginning.{not-begun, begun}
 use Rattle.epa_start.proofs.beginning.begin.Statement.{statement}
 use Rattle.epa_start.proofs.beginning.begin.Tie as tie
 

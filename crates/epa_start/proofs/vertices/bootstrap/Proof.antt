@@ -3,7 +3,7 @@ use borrow.Author.Needs.{needs}
 use lib.Ieee.{ofBits}
 use Rattle.vector.specs.Vector.{yV}
 use Rattle.epa_polytope.proofs.Doing.{place}
-use Rattle.epa_start.proofs.Starting.{none-far, far-pushed}
+use Rattle.epa_polytope.proofs.Starting.{none-far, far-pushed}
 use Rattle.epa_start.proofs.vertices.bootstrap.Statement.{statement}
 use Rattle.epa_start.proofs.vertices.bootstrap.Tie as tie
 

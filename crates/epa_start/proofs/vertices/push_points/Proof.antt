@@ -6,7 +6,7 @@ use Prim.Native.Nat.{_+_, _-_}
 use lib.ListN.{length}
 use Rattle.epa_polytope.specs.Stores.{withVertices}
 use Rattle.epa_polytope.proofs.Doing.{place}
-use Rattle.epa_start.proofs.Starting.{PointsLoop, points-start, points-turn, points-end, points-done}
+use Rattle.epa_polytope.proofs.Starting.{PointsLoop, points-start, points-turn, points-end, points-done}
 use Rattle.epa_start.proofs.vertices.push_points.Statement.{statement}
 use Rattle.epa_start.proofs.vertices.push_points.Tie as tie
 

@@ -6,7 +6,7 @@ use Prim.Native.Nat.{_≤_, _-_}
 use lib.Ieee.{binary32, ofBits}
 use Rattle.epa_polytope.specs.Start.{scaleOf}
 use Rattle.epa_polytope.proofs.Doing.{place}
-use Rattle.epa_start.proofs.Starting.{scale-grown}
+use Rattle.epa_polytope.proofs.Starting.{scale-grown}
 use Rattle.epa_start.proofs.vertices.scale_of.Statement.{statement}
 use Rattle.epa_start.proofs.vertices.scale_of.Tie as tie
 

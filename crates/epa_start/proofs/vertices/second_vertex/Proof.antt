@@ -4,7 +4,7 @@ use borrow.Author.Needs.{needs}
 use Prim.Native.Nat.{_-_, _<_}
 use Rattle.epa_polytope.specs.Contracts.{singleWorld}
 use Rattle.epa_polytope.proofs.Doing.{place}
-use Rattle.epa_start.proofs.Searching.{SearchLoop, search-starts, found, passed-by, none-left}
+use Rattle.epa_polytope.proofs.Searching.{SearchLoop, search-starts, found, passed-by, none-left}
 use Rattle.epa_start.proofs.vertices.second_vertex.Statement.{statement}
 use Rattle.epa_start.proofs.vertices.second_vertex.Tie as tie
 

@@ -5,7 +5,7 @@ use mathlib.Core.Path.{refl, ap, _∙_}
 use Rattle.epa_polytope.specs.Start.{startVertices}
 use Rattle.epa_polytope.specs.Contracts.{stepOut}
 use Rattle.epa_polytope.proofs.Doing.{goes-on, ends-here, stopped, not-stopped, done-if, not-done, place}
-use Rattle.epa_start.proofs.Starting.{tested, within-four}
+use Rattle.epa_polytope.proofs.Starting.{tested, within-four}
 use Rattle.epa_start.proofs.vertices.start_vertices.Statement.{statement}
 use Rattle.epa_start.proofs.vertices.start_vertices.Tie as tie
 

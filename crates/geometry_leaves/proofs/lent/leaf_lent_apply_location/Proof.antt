@@ -1,9 +1,0 @@
--- `leaf_lent_apply_location` returns the operation's answer, as it goes over.
-use Rattle.geometry_leaves.proofs.lent.leaf_lent_apply_location.Statement.{statement}
-use Rattle.geometry_leaves.proofs.lent.leaf_lent_apply_location.Tie as tie
-
-returns : tie.Need-returns
-returns c = simp (← c .before .before .location-from .ensures, ← c .before .apply-lent .ensures, ← c .applied-over .ensures)
-
-pub leaf-lent-apply-location-spec : {M : Type 1} → statement M
-leaf-lent-apply-location-spec = tie.close (tie.spec (λ c κs. tt) (λ c κs. tt) (λ c κs. tt) returns)

@@ -1,9 +1,0 @@
--- `leaf_from_shapes_toward` returns what the operation returns for the shape given.
-use Rattle.geometry_leaves.proofs.shapes.leaf_from_shapes_toward.Statement.{statement}
-use Rattle.geometry_leaves.proofs.shapes.leaf_from_shapes_toward.Tie as tie
-
-returns : tie.Need-returns
-returns c = simp (← c .before .before .shape-of .ensures, ← c .before .shape-of2 .ensures, ← c .from-shapes-toward .ensures)
-
-pub leaf-from-shapes-toward-spec : {M : Type 1} → statement M
-leaf-from-shapes-toward-spec = tie.close (tie.spec (λ c κs. tt) (λ c κs. tt) (λ c κs. tt) returns)
