@@ -7,20 +7,46 @@ use alloc::collections;
 use core::ops::{Deref, DerefMut};
 use std::panic;
 
-/// What unwinds out of a push into a full store.
-pub struct NoRoom;
+/// The stores that epa3.rs pushes into.
+#[derive(Copy, Clone, Debug, PartialEq)]
+pub enum Store {
+    Vertices,
+    Faces,
+    Edges,
+    Heap,
+}
 
-fn test_room(len: usize, room: usize) {
-    if len == room {
-        // Not `panic_any`: a full store is an answer, so no hook has to hear of it.
-        panic::resume_unwind(Box::new(NoRoom));
+/// What unwinds out of a push into a full store.
+pub struct NoRoom(pub Store);
+
+/// What a store is, and its room; none has a limit before it is lent one.
+struct Room {
+    store: Store,
+    entries: usize,
+}
+
+impl Default for Room {
+    fn default() -> Self {
+        Self {
+            store: Store::Vertices,
+            entries: usize::MAX,
+        }
+    }
+}
+
+impl Room {
+    fn test(&self, len: usize) {
+        if len == self.entries {
+            // Not `panic_any`: a full store is an answer, so no hook has to hear of it.
+            panic::resume_unwind(Box::new(NoRoom(self.store)));
+        }
     }
 }
 
 /// A list that refuses to grow above its room and remembers its greatest length.
 pub struct Vec<T> {
     items: alloc::vec::Vec<T>,
-    room: usize,
+    room: Room,
     most: usize,
 }
 
@@ -28,7 +54,7 @@ impl<T> Default for Vec<T> {
     fn default() -> Self {
         Self {
             items: alloc::vec::Vec::new(),
-            room: usize::MAX,
+            room: Room::default(),
             most: 0,
         }
     }
@@ -37,7 +63,7 @@ impl<T> Default for Vec<T> {
 impl<T> Vec<T> {
     #[inline]
     pub fn push(&mut self, item: T) {
-        test_room(self.items.len(), self.room);
+        self.room.test(self.items.len());
         self.items.push(item);
         self.most = self.most.max(self.items.len());
     }
@@ -47,8 +73,8 @@ impl<T> Vec<T> {
         self.items.clear();
     }
 
-    pub fn lend(&mut self, room: usize) {
-        self.room = room;
+    pub fn lend(&mut self, store: Store, entries: usize) {
+        self.room = Room { store, entries };
     }
 
     /// Starts a new run: empty, and never filled.
@@ -90,7 +116,7 @@ impl<'a, T> IntoIterator for &'a Vec<T> {
 /// The toolchain's own heap with a room.
 pub struct BinaryHeap<T> {
     heap: collections::BinaryHeap<T>,
-    room: usize,
+    room: Room,
     most: usize,
 }
 
@@ -98,7 +124,7 @@ impl<T: Ord> Default for BinaryHeap<T> {
     fn default() -> Self {
         Self {
             heap: collections::BinaryHeap::new(),
-            room: usize::MAX,
+            room: Room::default(),
             most: 0,
         }
     }
@@ -107,7 +133,7 @@ impl<T: Ord> Default for BinaryHeap<T> {
 impl<T: Ord> BinaryHeap<T> {
     #[inline]
     pub fn push(&mut self, item: T) {
-        test_room(self.heap.len(), self.room);
+        self.room.test(self.heap.len());
         self.heap.push(item);
         self.most = self.most.max(self.heap.len());
     }
@@ -122,8 +148,8 @@ impl<T: Ord> BinaryHeap<T> {
         self.heap.peek()
     }
 
-    pub fn lend(&mut self, room: usize) {
-        self.room = room;
+    pub fn lend(&mut self, store: Store, entries: usize) {
+        self.room = Room { store, entries };
     }
 
     /// Starts a new run: empty, and never filled.

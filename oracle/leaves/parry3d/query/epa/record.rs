@@ -2,7 +2,7 @@
 //! private stores; it changes nothing of a run but the stores' lent lengths.
 
 use super::{Face, FaceId, EPA};
-use crate::lent::BinaryHeap;
+use crate::lent::{BinaryHeap, Store};
 use crate::math::{Pose, Vector};
 use crate::query::epa::{Contents, Counts, FaceRecord, Polytope, Readable, Rooms, WayOut};
 use crate::query::gjk::VoronoiSimplex;
@@ -10,10 +10,10 @@ use crate::shape::SupportMap;
 
 impl Polytope for EPA {
     fn lend(&mut self, rooms: Rooms) {
-        self.vertices.lend(rooms.vertices);
-        self.silhouette.lend(rooms.edges);
-        self.faces.lend(rooms.faces);
-        self.heap.lend(rooms.heap);
+        self.vertices.lend(Store::Vertices, rooms.vertices);
+        self.silhouette.lend(Store::Edges, rooms.edges);
+        self.faces.lend(Store::Faces, rooms.faces);
+        self.heap.lend(Store::Heap, rooms.heap);
     }
 
     fn run(

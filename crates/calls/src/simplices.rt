@@ -1,0 +1,90 @@
+// The operations of the simplex that leave it as it is.
+use crate::answers::Answer;
+use crate::answers::of_bool;
+use crate::answers::of_count;
+use crate::answers::of_number;
+use crate::answers::of_vertex;
+use crate::answers::on_edge;
+use crate::answers::on_face;
+use crate::answers::on_solid;
+use crate::answers::on_vertex;
+use crate::answers::said;
+use crate::values::simplex_at;
+use crate::values::vector_at;
+use crate::words::size_at;
+use reduction::Location;
+use reduction::Projected;
+use simplex::Corner;
+use simplex::Number;
+use simplex::Size;
+use simplex::VoronoiSimplex;
+use vector::Vec3;
+
+// 0 no, 1 yes, 2 the refusal.
+pub fn answer_number(answer: simplex::Answer) -> usize {
+    match answer {
+        simplex::Answer::No => 0,
+        simplex::Answer::Yes => 1,
+        simplex::Answer::Refused => 2,
+    }
+}
+
+fn number_said(number: Number) -> Answer {
+    match number {
+        Number::Is(x) => of_number(x),
+        Number::Refused => said(2),
+    }
+}
+
+fn size_said(size: Size) -> Answer {
+    match size {
+        Size::Is(n) => of_count(n),
+        Size::Refused => said(2),
+    }
+}
+
+fn corner_said(corner: Corner) -> Answer {
+    match corner {
+        Corner::At(v) => of_vertex(v),
+        Corner::Refused => said(2),
+    }
+}
+
+fn location_at(p: Vec3, location: Location) -> Answer {
+    match location {
+        Location::OnVertex(i) => on_vertex(p, i),
+        Location::OnEdge(i, u, v) => on_edge(p, i, u, v),
+        Location::OnFace(i, u, v, w) => on_face(p, i, u, v, w),
+        Location::OnSolid => on_solid(p),
+    }
+}
+
+pub fn projected(projection: Projected) -> Answer {
+    match projection {
+        Projected::At(p, location) => location_at(p, location),
+        Projected::Refused => said(2),
+    }
+}
+
+fn read(function: u32, s: VoronoiSimplex, i: usize, pt: Vec3) -> Answer {
+    match function {
+        50 => number_said(s.proj_coord(i)),
+        51 => number_said(s.prev_proj_coord(i)),
+        52 => number_said(s.max_sq_len()),
+        53 => corner_said(s.point(i)),
+        54 => corner_said(s.prev_point(i)),
+        55 => size_said(s.dimension()),
+        56 => size_said(s.prev_dimension()),
+        57 => of_bool(s.is_simplex()),
+        58 => said(answer_number(s.contains_point(pt))),
+        _ => projected(reduction::project_origin(s)),
+    }
+}
+
+// Functions 50 to 59: of a simplex, a place and a point.
+pub fn answer(function: u32, args: &[u8]) -> Answer {
+    let s = simplex_at(args, 0);
+    let i = size_at(args, 54);
+    let pt = vector_at(args, 56);
+    read(function, s, i, pt)
+}
