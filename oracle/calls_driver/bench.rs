@@ -89,6 +89,8 @@ pub fn bench() -> Compared {
         );
     }
     drop(input);
-    child.wait().map_err(|error| format!("the program: {error}"))?;
+    child
+        .wait()
+        .map_err(|error| format!("the program: {error}"))?;
     Ok(())
 }

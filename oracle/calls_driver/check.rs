@@ -42,7 +42,13 @@ impl Check {
     }
 
     /// One call that neither side can refuse.
-    pub fn same(&mut self, name: &'static str, function: u32, arguments: &impl Put, rust: impl Into<Answer>) -> Compared {
+    pub fn same(
+        &mut self,
+        name: &'static str,
+        function: u32,
+        arguments: &impl Put,
+        rust: impl Into<Answer>,
+    ) -> Compared {
         self.call(name, function, arguments, Some(rust))
     }
 
@@ -59,12 +65,20 @@ impl Check {
         self.ask(name, function, arguments, refused, &answer)
     }
 
-    pub fn ask(&mut self, name: &'static str, function: u32, arguments: &impl Put, refused: bool, answer: &impl Put) -> Compared {
+    pub fn ask(
+        &mut self,
+        name: &'static str,
+        function: u32,
+        arguments: &impl Put,
+        refused: bool,
+        answer: &impl Put,
+    ) -> Compared {
         let kind = self.kinds.entry(name).or_default();
         kind.calls += 1;
         kind.refused += u64::from(refused);
         let family = self.family.name();
-        self.port.ask(Label { name, family }, function, arguments, answer)
+        self.port
+            .ask(Label { name, family }, function, arguments, answer)
     }
 
     /// Calls by kind, once all have answered; the difference if one differs.

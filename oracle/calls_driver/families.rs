@@ -148,7 +148,7 @@ impl<'a> Numbers<'a> {
         }
         if self.random.chance(50) {
             let moved = self.random.below(4);
-            p[moved] = p[moved] + self.little();
+            p[moved] += self.little();
         }
         p
     }

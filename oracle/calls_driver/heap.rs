@@ -112,7 +112,11 @@ impl Model {
             57..=184 => random.below(5),
             _ => random.below(33),
         };
-        let more = if random.chance(50) { random.below(9) } else { 0 };
+        let more = if random.chance(50) {
+            random.below(9)
+        } else {
+            0
+        };
         let [a, b] = random.pick(&[[room + more, room], [room, room + more]]);
         Self {
             heap: BinaryHeap::new(),
@@ -191,12 +195,23 @@ impl Call {
 }
 
 /// The call on the lists as they are; then the model does it, and says what was to be answered.
-fn compare(check: &mut Check, model: &mut Model, call: Call, operate: impl FnOnce(&mut Model) -> Answer) -> Compared {
+fn compare(
+    check: &mut Check,
+    model: &mut Model,
+    call: Call,
+    operate: impl FnOnce(&mut Model) -> Answer,
+) -> Compared {
     let arguments = model.arguments(call.count, call.entry);
     let answer = operate(model);
     model.write();
     let after = (answer, model.faces.clone(), model.keys.clone());
-    check.ask(call.name, call.function, &arguments, answer.number == 3, &after)
+    check.ask(
+        call.name,
+        call.function,
+        &arguments,
+        answer.number == 3,
+        &after,
+    )
 }
 
 /// Each call at counts that are none of the run's: none may write.
@@ -233,7 +248,13 @@ fn compare_push(check: &mut Check, model: &mut Model, entry: Queued) -> Compared
 }
 
 /// One operation: in `up` of fifteen a push, of the others a pop, and now and then a peek.
-fn compare_operation(check: &mut Check, model: &mut Model, keys: Keys, up: usize, random: &mut Random) -> Compared {
+fn compare_operation(
+    check: &mut Check,
+    model: &mut Model,
+    keys: Keys,
+    up: usize,
+    random: &mut Random,
+) -> Compared {
     let count = model.heap.len();
     let roll = random.below(16);
     if roll == 15 {
@@ -245,7 +266,11 @@ fn compare_operation(check: &mut Check, model: &mut Model, keys: Keys, up: usize
         let key = draw(keys, random);
         return compare_push(check, model, Queued { face, key });
     }
-    let name = if count == 0 { "pop of an empty heap" } else { "pop" };
+    let name = if count == 0 {
+        "pop of an empty heap"
+    } else {
+        "pop"
+    };
     compare(check, model, Call::of(name, HEAP_POP, count), |m| {
         let entry = m.heap.pop();
         taken(entry, m.heap.len())

@@ -96,7 +96,13 @@ impl Port {
     }
 
     /// One call, and what it must answer.
-    pub fn ask(&mut self, label: Label, function: u32, arguments: &impl Put, answer: &impl Put) -> Compared {
+    pub fn ask(
+        &mut self,
+        label: Label,
+        function: u32,
+        arguments: &impl Put,
+        answer: &impl Put,
+    ) -> Compared {
         let batch = &mut self.batch;
         let mut call = batch.calls.len();
         batch.put_call(function, arguments);
@@ -115,7 +121,8 @@ impl Port {
         let batch = std::mem::take(&mut self.batch);
         let ended = |_| "the program's answers ended".to_string();
         let sent = self.blocks.send(block(&batch.calls)).map_err(|_| ());
-        sent.and(self.expected.send(batch).map_err(|_| ())).map_err(ended)
+        sent.and(self.expected.send(batch).map_err(|_| ()))
+            .map_err(ended)
     }
 
     /// The first difference, if there is one.
@@ -160,7 +167,12 @@ impl Batch {
         let place = same.count();
         let asked = self.asked.partition_point(|asked| asked.answered <= place);
         let from = asked.checked_sub(1).map_or(0, |i| self.asked[i].answered);
-        let Some(Asked { label, call, answered }) = self.asked.get(asked) else {
+        let Some(Asked {
+            label,
+            call,
+            answered,
+        }) = self.asked.get(asked)
+        else {
             return "the program answers more than it was asked".to_string();
         };
         let end = call + 1 + self.calls[*call] as usize;

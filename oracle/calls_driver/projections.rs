@@ -150,10 +150,25 @@ pub fn compare_tests(check: &mut Check, n: &mut Numbers) -> Compared {
     let (kind, number) = (n.random.below(5) as u32, n.random.below(5) as u32);
     let rust = rust_weights(kind, number, a);
     let of: Given = ([kind, number], [a, b, c, d], Vec3::ZERO);
-    check.same("barycentric_coordinates", BARYCENTRIC_COORDINATES, &of, rust)
+    check.same(
+        "barycentric_coordinates",
+        BARYCENTRIC_COORDINATES,
+        &of,
+        rust,
+    )
 }
 
-fn compare_inside(check: &mut Check, name: &'static str, point: Vec3, tol: f32, rust: bool) -> Compared {
-    let of: Given = ([0, 0], [point, alone(tol), Vec3::ZERO, Vec3::ZERO], Vec3::ZERO);
+fn compare_inside(
+    check: &mut Check,
+    name: &'static str,
+    point: Vec3,
+    tol: f32,
+    rust: bool,
+) -> Compared {
+    let of: Given = (
+        [0, 0],
+        [point, alone(tol), Vec3::ZERO, Vec3::ZERO],
+        Vec3::ZERO,
+    );
     check.same(name, IS_INSIDE_EPS, &of, rust)
 }

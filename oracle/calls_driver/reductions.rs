@@ -101,7 +101,11 @@ fn applied(s: &Simplex, kind: u32, number: u32, weights: Vec3) -> (&'static str,
     if !has_location(s.dim, kind, number) {
         return ("apply_location: no such location", *s, 7);
     }
-    ("apply_location: taken", reduced(s, kind, number, weights), 0)
+    (
+        "apply_location: taken",
+        reduced(s, kind, number, weights),
+        0,
+    )
 }
 
 /// The origin's projection, and any location applied, by value and lent.
@@ -126,9 +130,16 @@ fn compare_projection(check: &mut Check, s: &Simplex) -> Compared {
     let (after, point) = altered(s, |simplex| simplex.project_origin());
     let found = rust.map(|answer| answer.vectors[0]);
     if !same(&(after, Answer::from(point)), &(*s, Answer::from(found))) {
-        return Err(format!("the Rust's own project_origin of {s:X?}: {point:X?}, {found:X?}"));
+        return Err(format!(
+            "the Rust's own project_origin of {s:X?}: {point:X?}, {found:X?}"
+        ));
     }
-    check.call("project_origin", PROJECT_ORIGIN, &(*s, 0_usize, Vec3::ZERO), rust)
+    check.call(
+        "project_origin",
+        PROJECT_ORIGIN,
+        &(*s, 0_usize, Vec3::ZERO),
+        rust,
+    )
 }
 
 /// The simplex reduced as the Rust's one function does: by value, the two operations in turn, of which the first is compared above and the
@@ -138,7 +149,12 @@ pub fn compare_reductions(check: &mut Check, s: &Simplex) -> Result<Simplex, Str
     let found = located(s);
     if let Some(at) = found {
         let of = (*s, [at.kind as u32, at.place as u32], at.vectors[1]);
-        check.altered(reduction(s, &after), APPLY_LOCATION, &of, (after, point.map(|_| Answer::said(0))))?;
+        check.altered(
+            reduction(s, &after),
+            APPLY_LOCATION,
+            &of,
+            (after, point.map(|_| Answer::said(0))),
+        )?;
     }
     let name = match (found, is_simplex(s)) {
         (Some(_), _) => "lent: reduce",

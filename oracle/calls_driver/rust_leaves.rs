@@ -21,7 +21,10 @@ pub fn copy_sign(magnitude: f32, sign: f32) -> f32 {
 pub fn try_normalize(a: Vec3) -> Answer {
     let tried = a.try_normalize();
     let vector = tried.unwrap_or(Vec3::ZERO);
-    Answer::of_vectors(usize::from(tried.is_some()), [vector, Vec3::ZERO, Vec3::ZERO])
+    Answer::of_vectors(
+        usize::from(tried.is_some()),
+        [vector, Vec3::ZERO, Vec3::ZERO],
+    )
 }
 
 pub fn normalize_and_length(a: Vec3) -> Answer {

@@ -56,5 +56,11 @@ pub fn compare_searches(check: &mut Check, n: &mut Numbers) -> Compared {
     let answer = found.unwrap_or(Answer::said(REFUSED));
     let of = (simplex, pose, raw1, raw2, max_dist, exact_dist);
     let refused = found.is_none();
-    check.ask(KINDS[answer.number], CLOSEST_POINTS, &of, refused, &(after, answer))
+    check.ask(
+        KINDS[answer.number],
+        CLOSEST_POINTS,
+        &of,
+        refused,
+        &(after, answer),
+    )
 }

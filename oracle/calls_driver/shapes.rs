@@ -47,7 +47,12 @@ pub fn compare_support_points(check: &mut Check, n: &mut Numbers) -> Compared {
     let rust = g1.local_support_point(dir);
     check.same("local_support_point", LOCAL_SUPPORT_POINT, &of, rust)?;
     let rust = g1.local_support_point_toward(dir);
-    check.same("local_support_point_toward", LOCAL_SUPPORT_POINT_TOWARD, &of, rust)?;
+    check.same(
+        "local_support_point_toward",
+        LOCAL_SUPPORT_POINT_TOWARD,
+        &of,
+        rust,
+    )?;
     let rust = g1.support_point(&pose, dir);
     check.same("support_point", SUPPORT_POINT, &of, rust)?;
     let rust = g1.support_point_toward(&pose, dir);
@@ -67,7 +72,11 @@ pub fn compare_vertices(check: &mut Check, n: &mut Numbers) -> Compared {
     let made = [
         ("CsoPoint::new", VERTEX_NEW, CsoPoint::new(b, c)),
         ("CsoPoint::new_with_point", VERTEX_NEW_WITH_POINT, v),
-        ("CsoPoint::single_point", VERTEX_SINGLE_POINT, CsoPoint::single_point(a)),
+        (
+            "CsoPoint::single_point",
+            VERTEX_SINGLE_POINT,
+            CsoPoint::single_point(a),
+        ),
         ("CsoPoint::origin", VERTEX_ORIGIN, CsoPoint::origin()),
         ("CsoPoint::translate", VERTEX_TRANSLATE, v.translate(d)),
     ];

@@ -137,14 +137,20 @@ fn compare_changes(check: &mut Check, n: &mut Numbers, s: &Simplex) -> Result<Si
     Ok(match n.random.below(8) {
         0 => swapped.0,
         1 => reset.0,
-        2 | 3 | 4 => added.0,
+        2..=4 => added.0,
         5 => moved.0,
         _ => reduced,
     })
 }
 
 /// An operation that answers nothing but that it was done.
-fn compare_done(check: &mut Check, name: &'static str, function: u32, of: &impl Put, rust: &(Simplex, Option<()>)) -> Compared {
+fn compare_done(
+    check: &mut Check,
+    name: &'static str,
+    function: u32,
+    of: &impl Put,
+    rust: &(Simplex, Option<()>),
+) -> Compared {
     let done = rust.1.map(|()| Answer::said(0));
     check.altered(name, function, of, (rust.0, done))
 }

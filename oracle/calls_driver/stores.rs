@@ -64,7 +64,10 @@ impl Stores {
     pub fn lists(&self, before: usize) -> Lists {
         let lists = Lists::after(before).and(&self.vertices);
         let lists = lists.and(&self.ids).and(&self.floats).and(&self.deleted);
-        lists.and(&self.edges).and(&self.heap_ids).and(&self.heap_keys)
+        lists
+            .and(&self.edges)
+            .and(&self.heap_ids)
+            .and(&self.heap_keys)
     }
 
     /// The stores after a run: its entries; zeros where there was one and is none; and the rest as it was.
@@ -91,7 +94,10 @@ impl Stores {
         self.ids[6 * i..6 * i + 3].copy_from_slice(&face.pts);
         self.ids[6 * i + 3..6 * i + 6].copy_from_slice(&face.adj);
         let [x, y, z] = face.bcoords;
-        write_vectors(&mut self.floats[6 * i..], &[face.normal, Vec3::new(x, y, z)]);
+        write_vectors(
+            &mut self.floats[6 * i..],
+            &[face.normal, Vec3::new(x, y, z)],
+        );
         self.deleted[i] = u8::from(face.deleted);
     }
 }

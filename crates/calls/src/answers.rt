@@ -54,32 +54,13 @@ pub fn of_vertex(v: Vertex) -> Answer {
     of_vectors(0, v.point, v.orig1, v.orig2)
 }
 
-// ---- a projection's point; its location's kind (0 vertex, 1 edge, 2 face, 3 solid), number and weights
-
-fn placed(p: Vec3, kind: usize, place: u32, u: f32, v: f32, w: f32) -> Answer {
+// A projection's point; its location's kind (0 vertex, 1 edge, 2 face, 3 solid), number and weights.
+pub fn placed(p: Vec3, kind: usize, place: u32, u: f32, v: f32, w: f32) -> Answer {
     Answer {
         sizes: [0, kind, 0, place as usize],
         floats: [0.0, p.x, p.y, p.z, u, v, w, 0.0, 0.0, 0.0],
     }
 }
-
-pub fn on_vertex(p: Vec3, i: u32) -> Answer {
-    placed(p, 0, i, 0.0, 0.0, 0.0)
-}
-
-pub fn on_edge(p: Vec3, i: u32, u: f32, v: f32) -> Answer {
-    placed(p, 1, i, u, v, 0.0)
-}
-
-pub fn on_face(p: Vec3, i: u32, u: f32, v: f32, w: f32) -> Answer {
-    placed(p, 2, i, u, v, w)
-}
-
-pub fn on_solid(p: Vec3) -> Answer {
-    placed(p, 3, 0, 0.0, 0.0, 0.0)
-}
-
-// ----
 
 pub fn put_answer(out: &mut [u8; 65_536], at: usize, answer: Answer) -> usize {
     let sizes = answer.sizes;

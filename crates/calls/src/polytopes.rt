@@ -17,7 +17,6 @@ use crate::values::pose_at;
 use crate::values::shape_at;
 use crate::values::simplex_at;
 use crate::words::put_sizes;
-use epa::Counts;
 use epa_polytope::End;
 use epa_polytope::Found;
 use epa_polytope::Lost;
@@ -70,10 +69,13 @@ fn ended(end: End) -> Answer {
     }
 }
 
-fn put_counts(out: &mut [u8; 65_536], at: usize, counts: Counts) -> usize {
+fn put_told(out: &mut [u8; 65_536], at: usize, told: epa::Answer) -> usize {
+    let end = told.end;
+    let counts = told.counts;
+    let next = put_answer(out, at, ended(end));
     put_sizes(
         out,
-        at,
+        next,
         &[
             counts.expansions,
             counts.faces_made,
@@ -81,13 +83,6 @@ fn put_counts(out: &mut [u8; 65_536], at: usize, counts: Counts) -> usize {
             counts.most_edges,
         ],
     )
-}
-
-fn put_told(out: &mut [u8; 65_536], at: usize, answer: epa::Answer) -> usize {
-    let end = answer.end;
-    let counts = answer.counts;
-    let next = put_answer(out, at, ended(end));
-    put_counts(out, next, counts)
 }
 
 fn put_faces(
@@ -137,7 +132,7 @@ pub fn answer(args: &[u8], out: &mut [u8; 65_536], at: usize) -> usize {
     let mut edges = sizes_from(args, 89, e);
     let mut heap_ids = sizes_from(args, 91, f);
     let mut heap_keys = floats_from(args, 93, g);
-    let answer = epa::closest_points(
+    let told = epa::closest_points(
         pose,
         g1,
         g2,
@@ -150,7 +145,7 @@ pub fn answer(args: &[u8], out: &mut [u8; 65_536], at: usize) -> usize {
         &mut heap_ids[..f],
         &mut heap_keys[..g],
     );
-    let faces = put_told(out, at, answer);
+    let faces = put_told(out, at, told);
     let queues = put_faces(out, faces, args, vertices, ids, floats, deleted);
     put_queues(out, queues, args, edges, heap_ids, heap_keys)
 }

@@ -3,10 +3,7 @@
 use crate::answers::Answer;
 use crate::answers::of_bool;
 use crate::answers::of_vector;
-use crate::answers::on_edge;
-use crate::answers::on_face;
-use crate::answers::on_solid;
-use crate::answers::on_vertex;
+use crate::answers::placed;
 use crate::answers::said;
 use crate::values::vector_at;
 use crate::words::word_at;
@@ -23,26 +20,26 @@ use vector::Vec3;
 
 fn segment_at(p: Vec3, location: SegmentPointLocation) -> Answer {
     match location {
-        SegmentPointLocation::OnVertex(i) => on_vertex(p, i),
-        SegmentPointLocation::OnEdge(u, v) => on_edge(p, 0, u, v),
+        SegmentPointLocation::OnVertex(i) => placed(p, 0, i, 0.0, 0.0, 0.0),
+        SegmentPointLocation::OnEdge(u, v) => placed(p, 1, 0, u, v, 0.0),
     }
 }
 
 fn triangle_at(p: Vec3, location: TrianglePointLocation) -> Answer {
     match location {
-        TrianglePointLocation::OnVertex(i) => on_vertex(p, i),
-        TrianglePointLocation::OnEdge(i, u, v) => on_edge(p, i, u, v),
-        TrianglePointLocation::OnFace(i, u, v, w) => on_face(p, i, u, v, w),
-        TrianglePointLocation::OnSolid => on_solid(p),
+        TrianglePointLocation::OnVertex(i) => placed(p, 0, i, 0.0, 0.0, 0.0),
+        TrianglePointLocation::OnEdge(i, u, v) => placed(p, 1, i, u, v, 0.0),
+        TrianglePointLocation::OnFace(i, u, v, w) => placed(p, 2, i, u, v, w),
+        TrianglePointLocation::OnSolid => placed(p, 3, 0, 0.0, 0.0, 0.0),
     }
 }
 
 fn tetrahedron_at(p: Vec3, location: TetrahedronPointLocation) -> Answer {
     match location {
-        TetrahedronPointLocation::OnVertex(i) => on_vertex(p, i),
-        TetrahedronPointLocation::OnEdge(i, u, v) => on_edge(p, i, u, v),
-        TetrahedronPointLocation::OnFace(i, u, v, w) => on_face(p, i, u, v, w),
-        TetrahedronPointLocation::OnSolid => on_solid(p),
+        TetrahedronPointLocation::OnVertex(i) => placed(p, 0, i, 0.0, 0.0, 0.0),
+        TetrahedronPointLocation::OnEdge(i, u, v) => placed(p, 1, i, u, v, 0.0),
+        TetrahedronPointLocation::OnFace(i, u, v, w) => placed(p, 2, i, u, v, w),
+        TetrahedronPointLocation::OnSolid => placed(p, 3, 0, 0.0, 0.0, 0.0),
     }
 }
 

@@ -4,10 +4,7 @@ use crate::answers::of_bool;
 use crate::answers::of_count;
 use crate::answers::of_number;
 use crate::answers::of_vertex;
-use crate::answers::on_edge;
-use crate::answers::on_face;
-use crate::answers::on_solid;
-use crate::answers::on_vertex;
+use crate::answers::placed;
 use crate::answers::said;
 use crate::values::simplex_at;
 use crate::values::vector_at;
@@ -52,10 +49,10 @@ fn corner_said(corner: Corner) -> Answer {
 
 fn location_at(p: Vec3, location: Location) -> Answer {
     match location {
-        Location::OnVertex(i) => on_vertex(p, i),
-        Location::OnEdge(i, u, v) => on_edge(p, i, u, v),
-        Location::OnFace(i, u, v, w) => on_face(p, i, u, v, w),
-        Location::OnSolid => on_solid(p),
+        Location::OnVertex(i) => placed(p, 0, i, 0.0, 0.0, 0.0),
+        Location::OnEdge(i, u, v) => placed(p, 1, i, u, v, 0.0),
+        Location::OnFace(i, u, v, w) => placed(p, 2, i, u, v, w),
+        Location::OnSolid => placed(p, 3, 0, 0.0, 0.0, 0.0),
     }
 }
 
