@@ -26,7 +26,7 @@ fn sign_of(turn: usize) -> f32
     if turn / 3 % 2 == 0 { 1.0 } else { -1.0 }
 }
 
-pub fn perturbed_dir(dir: Vec3, seed: usize) -> Vec3
+pub(crate) fn perturbed_dir(dir: Vec3, seed: usize) -> Vec3
     requires { ⌜ 0 < seed ⌝ }
     ensures { λ r. ⌜ r ≡ perturbedDir binary32 dir seed ⌝ }
 {

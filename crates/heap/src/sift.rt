@@ -5,7 +5,7 @@ ghost use lib.ListN.{length};
 ghost use Rattle.heap.specs.Heap.{heap, placed, swap as swapped, rise as risen, greater as greaterOf, sink as sunk, popped};
 
 // How many entries have a place in both slices.
-pub fn places(faces: &[usize], keys: &[f32]) -> usize
+pub(crate) fn places(faces: &[usize], keys: &[f32]) -> usize
     ensures { λ r. ⌜ r ≡ min (length (now (faces .entry))) (length (now (keys .entry))) ⌝ }
 {
     let n = keys.len();
@@ -26,7 +26,7 @@ fn swap(faces: &mut [usize], keys: &mut [f32], i: usize, j: usize)
 }
 
 // The entry at `from` rises while its parent is strictly less: `sift_up`.
-pub fn rise(faces: &mut [usize], keys: &mut [f32], from: usize)
+pub(crate) fn rise(faces: &mut [usize], keys: &mut [f32], from: usize)
     requires { ⌜ from < min (length (now faces)) (length (now keys)) ⌝ }
     ensures { λ r. ⌜ ((n : ℕ) → heap (now (faces .exit)) (now (keys .exit)) n ≡ risen (heap (now (faces .entry)) (now (keys .entry)) n) from) ⌝ }
 {
@@ -78,7 +78,7 @@ fn sink(faces: &mut [usize], keys: &mut [f32], count: usize) -> usize
 
 // The last of `last` + 1 entries leaves its place, which becomes zero, for that of the first, if it is not the
 // first itself; there it sinks, and rises again: `sift_down_to_bottom`.
-pub fn take_last(faces: &mut [usize], keys: &mut [f32], last: usize)
+pub(crate) fn take_last(faces: &mut [usize], keys: &mut [f32], last: usize)
     requires { ⌜ last < min (length (now faces)) (length (now keys)) ⌝ }
     ensures { λ r. ⌜ heap (now (faces .exit)) (now (keys .exit)) last ≡ popped (heap (now (faces .entry)) (now (keys .entry)) (last + 1)) last ⌝ }
 {

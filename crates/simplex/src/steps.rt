@@ -11,7 +11,7 @@ use shape::Vertex;
 use vector::Vec3;
 
 // `swap`: two vertices and their previous places change places.
-pub fn swap_in(s: VoronoiSimplex, i1: usize, i2: usize) -> VoronoiSimplex
+pub(crate) fn swap_in(s: VoronoiSimplex, i1: usize, i2: usize) -> VoronoiSimplex
     requires { ⌜ (i1 < 4) × (i2 < 4) ⌝ }
     ensures { λ r. ⌜ r ≡ swapIn s i1 i2 ⌝ }
 {
@@ -28,7 +28,7 @@ pub fn swap_in(s: VoronoiSimplex, i1: usize, i2: usize) -> VoronoiSimplex
 }
 
 // What `add_point` keeps of the simplex before it looks at the new point.
-pub fn saved_in(s: VoronoiSimplex) -> VoronoiSimplex
+pub(crate) fn saved_in(s: VoronoiSimplex) -> VoronoiSimplex
     ensures { λ r. ⌜ r ≡ savedIn s ⌝ }
 {
     let mut t = s;
@@ -40,7 +40,7 @@ pub fn saved_in(s: VoronoiSimplex) -> VoronoiSimplex
 }
 
 // The simplex with one vertex more.
-pub fn grown_in(s: VoronoiSimplex, pt: Vertex) -> VoronoiSimplex
+pub(crate) fn grown_in(s: VoronoiSimplex, pt: Vertex) -> VoronoiSimplex
     requires { ⌜ s .dim < 3 ⌝ }
     ensures { λ r. ⌜ r ≡ grownIn s pt ⌝ }
 {
@@ -77,7 +77,7 @@ fn near_plane(a: Vertex, b: Vertex, c: Vertex, pt: Vertex) -> bool
 }
 
 // Whether `add_point` answers false, at dimension 0, 1 or 2.
-pub fn near_simplex(s: VoronoiSimplex, pt: Vertex) -> bool
+pub(crate) fn near_simplex(s: VoronoiSimplex, pt: Vertex) -> bool
     ensures { λ r. ⌜ r ≡ nearSimplex binary32 s pt ⌝ }
 {
     let a = s.vertices[0];
@@ -93,7 +93,7 @@ pub fn near_simplex(s: VoronoiSimplex, pt: Vertex) -> bool
 }
 
 // `reset`: the weights and the previous ones stay old.
-pub fn reset_in(s: VoronoiSimplex, pt: Vertex) -> VoronoiSimplex
+pub(crate) fn reset_in(s: VoronoiSimplex, pt: Vertex) -> VoronoiSimplex
     ensures { λ r. ⌜ r ≡ resetIn s pt ⌝ }
 {
     let mut t = s;
@@ -104,7 +104,7 @@ pub fn reset_in(s: VoronoiSimplex, pt: Vertex) -> VoronoiSimplex
 }
 
 // Whether one of the vertices has the point `pt`.
-pub fn has_point(s: VoronoiSimplex, pt: Vec3) -> bool
+pub(crate) fn has_point(s: VoronoiSimplex, pt: Vec3) -> bool
     requires { ⌜ s .dim ≤ 3 ⌝ }
     ensures { λ r. ⌜ r ≡ hasPoint s pt (s .dim + 1) ⌝ }
 {
@@ -128,7 +128,7 @@ fn greater_sq_len(most: f32, v: Vertex) -> f32
     if norm > most { norm } else { most }
 }
 
-pub fn max_sq_len_in(s: VoronoiSimplex) -> f32
+pub(crate) fn max_sq_len_in(s: VoronoiSimplex) -> f32
     requires { ⌜ s .dim ≤ 3 ⌝ }
     ensures { λ r. ⌜ r ≡ maxSqLenOf binary32 s (s .dim + 1) ⌝ }
 {
@@ -143,7 +143,7 @@ pub fn max_sq_len_in(s: VoronoiSimplex) -> f32
     most
 }
 
-pub fn translated_in(s: VoronoiSimplex, dir: Vec3) -> VoronoiSimplex
+pub(crate) fn translated_in(s: VoronoiSimplex, dir: Vec3) -> VoronoiSimplex
     requires { ⌜ s .dim ≤ 3 ⌝ }
     ensures { λ r. ⌜ r ≡ translatedIn binary32 s dir (s .dim + 1) ⌝ }
 {

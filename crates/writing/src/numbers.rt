@@ -30,7 +30,7 @@ fn put_groups(out: &mut [u8], at: usize, value: u32, more: usize) -> usize
     put_groups(out, next, value / 128, more - 1)
 }
 
-pub fn put_number(out: &mut [u8], at: usize, value: u32) -> usize
+pub(crate) fn put_number(out: &mut [u8], at: usize, value: u32) -> usize
     requires { ⌜ at + 5 ≤ length (now out) ⌝ }
     ensures { λ r. ⌜ Put (now (out .entry)) at (encode value) (now (out .exit)) r ⌝ }
 {
