@@ -4,7 +4,7 @@
 use Prim.Native.Nat.{ℕ, zero, suc, _+_, _*_, _/_, _%_, _<_}
 use mathlib.Core.Bool.{cond}
 use mathlib.Core.List.{List, [], _∷_}
-use lib.ListN.{drop}
+use lib.ListN.{drop, length}
 use lib.Dec.{ltb, leb, eqb}
 use Rattle.casefile.specs.declared.numbers.NumberAnswer.{NumberAnswer}
 use Rattle.casefile.specs.declared.numbers.NumberAnswer.the-variants.{Read, Bad, Ended}
@@ -31,6 +31,21 @@ firstOf (b ∷ s) at = cond (ltb b 128) (Read b (at + 1)) (joined (b % 128) (lat
 -- the number that starts at the place `at`, and the place after it
 unfoldable pub decodeNumber : List ℕ → ℕ → NumberAnswer
 decodeNumber bytes at = firstOf (drop at bytes) at
+
+-- ---- document 01's number of what stands at the place `at` of s, 0 or refusal 4, and its values: the number and the place after it; of the refusal the offset, the length of s where that ends inside
+unfoldable pub numberOutcome : NumberAnswer → ℕ
+numberOutcome (Read v next) = 0
+numberOutcome Bad = 4
+numberOutcome Ended = 4
+
+pub record Values : Type 0 where
+  pub value : ℕ
+  pub place : ℕ
+
+unfoldable pub numberValues : List ℕ → ℕ → NumberAnswer → Values
+numberValues s at (Read v next) = record { value = v; place = next }
+numberValues s at Bad = record { value = 0; place = at }
+numberValues s at Ended = record { value = 0; place = length s }
 
 -- ---- writing
 

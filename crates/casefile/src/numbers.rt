@@ -4,7 +4,8 @@
 ghost use mathlib.Core.Path.{_≡_};
 ghost use Prim.Native.Nat.{_<_, _≤_};
 ghost use lib.ListN.{drop};
-ghost use Rattle.casefile.specs.Numbers.{decodeNumber, laterIn, joined as joinedOf, Below};
+ghost use Rattle.number.specs.Told.{Told};
+ghost use Rattle.casefile.specs.Numbers.{decodeNumber, numberOutcome, numberValues, laterIn, joined as joinedOf, Below};
 
 // What reading a number finds.
 pub enum NumberAnswer {
@@ -64,7 +65,8 @@ fn later(bytes: &[u8], at: usize, more: usize) -> NumberAnswer
 
 // The number that starts at `at`.
 pub fn read_number(bytes: &[u8], at: usize) -> NumberAnswer
-    ensures { λ r. ⌜ r ≡ decodeNumber (now (bytes .entry)) at ⌝ }
+    ensures answer { λ r. ⌜ r ≡ decodeNumber (now (bytes .entry)) at ⌝ }
+    ensures told { λ r. ⌜ Told numberOutcome (numberValues (now (bytes .entry)) at) r (decodeNumber (now (bytes .entry)) at) ⌝ }
 {
     if bytes.len() <= at {
         return NumberAnswer::Ended;

@@ -2,7 +2,8 @@
 // so that each step takes where the one before it stands.
 ghost use mathlib.Core.Path.{_≡_};
 ghost use lib.Ieee.{binary32};
-ghost use Rattle.casefile.specs.Records.{got, numberAt, spoiled as spoiledOf, smallAt, floatAt, vectorAt, kindAt, shapeAt, poseAt, readCase};
+ghost use Rattle.number.specs.Told.{Told};
+ghost use Rattle.casefile.specs.Records.{got, numberAt, spoiled as spoiledOf, smallAt, floatAt, vectorAt, kindAt, shapeAt, poseAt, readCase, caseNumber, caseValue};
 use crate::numbers;
 use crate::numbers::NumberAnswer;
 use shape::Shape;
@@ -262,7 +263,8 @@ fn pose_at(bytes: &[u8], reading: Reading) -> GotPose
 
 // The record that starts at `at`: its numbers are at most 32, in at most 160 bytes.
 pub fn read_case(bytes: &[u8], at: usize) -> CaseAnswer
-    ensures { λ r. ⌜ r ≡ readCase binary32 (now (bytes .entry)) at ⌝ }
+    ensures answer { λ r. ⌜ r ≡ readCase binary32 (now (bytes .entry)) at ⌝ }
+    ensures told { λ r. ⌜ Told caseNumber (caseValue (now (bytes .entry))) r (readCase binary32 (now (bytes .entry)) at) ⌝ }
 {
     let first = shape_at(bytes, Reading::At(at));
     let after_first = first.reading;

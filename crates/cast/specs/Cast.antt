@@ -56,14 +56,6 @@ castValues (Impact t d) = record { time = t; dir = d }
 castValues Miss = record { time = zeroF; dir = zeroV }
 castValues Refused = record { time = zeroF; dir = zeroV }
 
--- both
-pub record Told : Type 0 where
-  pub number : ℕ
-  pub values : Values
-
-abbrev pub told : Cast → Told
-told c = record { number = castNumber c; values = castValues c }
-
 -- ---- what a cast is asked: the support points of the two shapes, the ray, the largest time; and `ray_length` and `_eps_rel`
 pub record Search : Type 0 where
   pub supp : Vec3 → Vertex

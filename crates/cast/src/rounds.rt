@@ -2,10 +2,11 @@
 // a location that was found for a simplex is always taken, so the answer of applying it is not looked at (`both-in-turn` of `reduction`).
 ghost use mathlib.Core.Path.{_≡_};
 ghost use lib.Ieee.{binary32};
+ghost use Rattle.number.specs.Told.{Told};
 ghost use Rattle.shape.specs.Support.{fromShapes};
 ghost use Rattle.cast.specs.Cast.{searchOf, onwardWith, endedWith, impact, beyond, supportPoint, witnessed, lastChance};
 ghost use Rattle.cast.specs.Cast.{lowered, clipped, minBoundOf, bounded, added, solid, reduced, probed};
-ghost use Rattle.cast.specs.Cast.{turnOf, runOf, startOf, minkowskiRayCast, told};
+ghost use Rattle.cast.specs.Cast.{turnOf, runOf, startOf, minkowskiRayCast, castNumber, castValues};
 use crate::ray::MaybeTime;
 use crate::ray::Ray;
 use crate::ray::is_zero;
@@ -397,7 +398,7 @@ pub fn minkowski_ray_cast(
     max_time_of_impact: f32,
 ) -> Cast
     ensures answer { λ c. ⌜ c ≡ minkowskiRayCast binary32 (fromShapes binary32 pos12 g1 g2) ray «max_time_of_impact» ⌝ }
-    ensures told { λ c. ⌜ told c ≡ told (minkowskiRayCast binary32 (fromShapes binary32 pos12 g1 g2) ray «max_time_of_impact») ⌝ }
+    ensures told { λ c. ⌜ Told castNumber castValues c (minkowskiRayCast binary32 (fromShapes binary32 pos12 g1 g2) ray «max_time_of_impact») ⌝ }
 {
     let given = ray.dir;
     let ray_length = given.length();

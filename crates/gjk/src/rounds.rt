@@ -3,10 +3,11 @@
 ghost use Prim.Native.Nat.{_<_};
 ghost use mathlib.Core.Path.{_≡_};
 ghost use lib.Ieee.{binary32};
+ghost use Rattle.number.specs.Told.{Told};
 ghost use Rattle.gjk.specs.Gjk.{searchOf, closestBy, apartBy, touching, stalled, advanced, extended, bounded, probed, stagnated};
 ghost use Rattle.shape.specs.Support.{fromShapes};
 ghost use Rattle.gjk.specs.Gjk.{onwardWith, endedWith};
-ghost use Rattle.gjk.specs.Gjk.{turnOf, runOf, startOf, finishedBy, closestPoints};
+ghost use Rattle.gjk.specs.Gjk.{turnOf, runOf, startOf, finishedBy, closestPoints, gjkNumber, gjkValues};
 use crate::perturbed::perturbed_dir;
 use reduction::Projected;
 use shape::Shape;
@@ -346,7 +347,8 @@ pub fn closest_points(
     exact_dist: bool,
     simplex: VoronoiSimplex,
 ) -> Gjk
-    ensures { λ g. ⌜ g ≡ closestPoints binary32 (fromShapes binary32 pos12 g1 g2) «max_dist» «exact_dist» simplex ⌝ }
+    ensures answer { λ g. ⌜ g ≡ closestPoints binary32 (fromShapes binary32 pos12 g1 g2) «max_dist» «exact_dist» simplex ⌝ }
+    ensures told { λ g. ⌜ Told gjkNumber gjkValues (g .result) (closestPoints binary32 (fromShapes binary32 pos12 g1 g2) «max_dist» «exact_dist» simplex .result) ⌝ }
 {
     let q = Query {
         pos12,

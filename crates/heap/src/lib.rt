@@ -4,8 +4,9 @@
 // The store is as long as the shorter slice. No call returns a count above that. If one is passed all the same, the call
 // answers `NoRoom` and writes nothing. A pop zeroes the place that it frees at once, and no call touches a place above its own last.
 ghost use mathlib.Core.Path.{_≡_};
+ghost use Rattle.number.specs.Told.{Told};
 ghost use Rattle.heap.specs.Heap.{heap, entry};
-ghost use Rattle.heap.specs.Calls.{after, pushOf, peekOf, popOf};
+ghost use Rattle.heap.specs.Calls.{after, pushOf, pushNumber, pushValue, peekOf, peekNumber, peekValues, popOf, popNumber, popValues};
 
 // Entries change places: private, since these functions ask something of their caller.
 mod sift;
@@ -37,7 +38,8 @@ pub enum Popped {
 
 // An entry goes in, and rises while its parent is less. Where there is no place for it nothing is written.
 pub fn push(faces: &mut [usize], keys: &mut [f32], count: usize, face: usize, key: f32) -> Pushed
-    ensures { λ r. ⌜ after (now (faces .exit)) (now (keys .exit)) r ≡ pushOf (heap (now (faces .entry)) (now (keys .entry)) count) (entry face key) ⌝ }
+    ensures answer { λ r. ⌜ after (now (faces .exit)) (now (keys .exit)) r ≡ pushOf (heap (now (faces .entry)) (now (keys .entry)) count) (entry face key) ⌝ }
+    ensures told { λ r. ⌜ Told pushNumber pushValue r (pushOf (heap (now (faces .entry)) (now (keys .entry)) count) (entry face key) .answer) ⌝ }
 {
     if count < sift::places(faces, keys) {
         faces[count] = face;
@@ -51,7 +53,8 @@ pub fn push(faces: &mut [usize], keys: &mut [f32], count: usize, face: usize, ke
 
 // The entry that a pop would take out.
 pub fn peek(faces: &[usize], keys: &[f32], count: usize) -> Peeked
-    ensures { λ r. ⌜ r ≡ peekOf (heap (now (faces .entry)) (now (keys .entry)) count) ⌝ }
+    ensures answer { λ r. ⌜ r ≡ peekOf (heap (now (faces .entry)) (now (keys .entry)) count) ⌝ }
+    ensures told { λ r. ⌜ Told peekNumber peekValues r (peekOf (heap (now (faces .entry)) (now (keys .entry)) count)) ⌝ }
 {
     if count == 0 {
         return Peeked::Empty;
@@ -68,7 +71,8 @@ pub fn peek(faces: &[usize], keys: &[f32], count: usize) -> Peeked
 // The first entry goes out; the last takes its place, sinks to the bottom and rises again. The place that
 // it leaves becomes zero. Where there is no entry nothing is written.
 pub fn pop(faces: &mut [usize], keys: &mut [f32], count: usize) -> Popped
-    ensures { λ r. ⌜ after (now (faces .exit)) (now (keys .exit)) r ≡ popOf (heap (now (faces .entry)) (now (keys .entry)) count) ⌝ }
+    ensures answer { λ r. ⌜ after (now (faces .exit)) (now (keys .exit)) r ≡ popOf (heap (now (faces .entry)) (now (keys .entry)) count) ⌝ }
+    ensures told { λ r. ⌜ Told popNumber popValues r (popOf (heap (now (faces .entry)) (now (keys .entry)) count) .answer) ⌝ }
 {
     if count == 0 {
         return Popped::Empty;

@@ -134,18 +134,17 @@ barycentricCoordinates (OnEdge i u v) = edgeWeights i u v
 barycentricCoordinates (OnFace i u v w) = Weights.Some u v w
 barycentricCoordinates OnSolid = Weights.None
 
--- ---- document 01's number of an answer, 0 or refusal 2, and its values: whether it is the Rust's `None`, and the weights, zeros where there are none
+-- ---- document 01's number of an answer, 0 or refusal 2, and its values: whether there are weights, for the Rust's `None` has none, and the weights, zeros where there are none
 unfoldable pub barycentricNumber : BarycentricCoordinates → ℕ
 barycentricNumber (Weights.Some u v w) = 0
 barycentricNumber Weights.None = 0
 barycentricNumber Weights.Refused = 2
 
-unfoldable pub barycentricNone : BarycentricCoordinates → Bool
-barycentricNone (Weights.Some u v w) = false
-barycentricNone Weights.None = true
-barycentricNone Weights.Refused = false
+pub record WeightValues : Type 0 where
+  pub some : Bool
+  pub weights : Vec3
 
-unfoldable pub barycentricValues : BarycentricCoordinates → Vec3
-barycentricValues (Weights.Some u v w) = vec3 u v w
-barycentricValues Weights.None = zeroV
-barycentricValues Weights.Refused = zeroV
+unfoldable pub barycentricValues : BarycentricCoordinates → WeightValues
+barycentricValues (Weights.Some u v w) = record { some = true; weights = vec3 u v w }
+barycentricValues Weights.None = record { some = false; weights = zeroV }
+barycentricValues Weights.Refused = record { some = false; weights = zeroV }

@@ -1,7 +1,8 @@
 // The projection on a segment (parry3d's `point_segment.rs`).
 ghost use mathlib.Core.Path.{_≡_};
 ghost use lib.Ieee.{binary32};
-ghost use Rattle.projection.specs.Segment.{onEdge, projectSegment};
+ghost use Rattle.number.specs.Told.{Told};
+ghost use Rattle.projection.specs.Segment.{onEdge, projectSegment, segmentNumber, segmentValues};
 use vector::Vec3;
 
 #[repr(C)]
@@ -24,7 +25,8 @@ pub enum SegmentProjection {
 
 impl Segment {
     pub fn project_local_point_and_get_location(self, pt: Vec3) -> SegmentProjection
-        ensures { λ r. ⌜ r ≡ projectSegment binary32 self pt ⌝ }
+        ensures answer { λ r. ⌜ r ≡ projectSegment binary32 self pt ⌝ }
+        ensures told { λ r. ⌜ Told segmentNumber segmentValues r (projectSegment binary32 self pt) ⌝ }
     {
         let ab = self.b.sub(self.a);
         let ap = pt.sub(self.a);

@@ -2,9 +2,10 @@
 // and whether a triangle's corners lie on a line (`triangle.rs`).
 ghost use mathlib.Core.Path.{_≡_};
 ghost use lib.Ieee.{binary32};
+ghost use Rattle.number.specs.Told.{Told};
 ghost use Rattle.projection.specs.Triangle.{projectTriangle, isAffinelyDependent, barycentricCoordinates};
 ghost use Rattle.projection.specs.Triangle.{differences, dots, onVertex, vertexRegion, checkEdges, faceSide, onEdge, onFace};
-ghost use Rattle.projection.specs.Triangle.{vertexWeights, edgeWeights};
+ghost use Rattle.projection.specs.Triangle.{vertexWeights, edgeWeights, barycentricNumber, barycentricValues};
 use crate::relative::relative_eq;
 use vector::Vec3;
 
@@ -230,7 +231,8 @@ fn on_face(
 
 impl TrianglePointLocation {
     pub fn barycentric_coordinates(self) -> BarycentricCoordinates
-        ensures { λ r. ⌜ r ≡ barycentricCoordinates self ⌝ }
+        ensures answer { λ r. ⌜ r ≡ barycentricCoordinates self ⌝ }
+        ensures told { λ r. ⌜ Told barycentricNumber barycentricValues r (barycentricCoordinates self) ⌝ }
     {
         match self {
             TrianglePointLocation::OnVertex(i) => vertex_weights(i),

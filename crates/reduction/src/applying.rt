@@ -3,10 +3,11 @@
 ghost use mathlib.Core.Path.{_≡_};
 ghost use mathlib.Core.Bool.{true};
 ghost use Prim.Native.Nat.{_<_};
+ghost use Rattle.number.specs.Told.{Told, noValues};
 ghost use Rattle.simplex.specs.Simplex.{isSimplex, swapIn};
 ghost use Rattle.reduction.specs.Reduction.{overwriteIn, placeIn, toFirst, toVertex, toEdge};
 ghost use Rattle.reduction.specs.Reduction.{reduceSegment, triangleEdge, reduceTriangle, edgeFirst, tetrahedronEdge, tetrahedronFace, reduceTetrahedron};
-ghost use Rattle.reduction.specs.Reduction.{hasLocation, reduceTo, appliedWith, applyLocation};
+ghost use Rattle.reduction.specs.Reduction.{hasLocation, reduceTo, appliedWith, applyLocation, applicationNumber};
 use crate::location::Location;
 use simplex::VoronoiSimplex;
 
@@ -182,7 +183,7 @@ fn reduce_tetrahedron(s: VoronoiSimplex, location: Location) -> VoronoiSimplex
         Location::OnVertex(i) => to_vertex(s, i as usize),
         Location::OnEdge(i, u, v) => tetrahedron_edge(s, i, u, v),
         Location::OnFace(i, u, v, w) => tetrahedron_face(s, i, u, v, w),
-        Location::OnSolid => s,
+        Location::OnSolid => s, // dimension and weights stay
     }
 }
 
@@ -225,7 +226,8 @@ fn answered(simplex: VoronoiSimplex, outcome: Application) -> Applied
 
 // The simplex reduced to a location. Whether the value is a simplex is tested before all else.
 pub fn apply_location(simplex: VoronoiSimplex, location: Location) -> Applied
-    ensures { λ r. ⌜ r ≡ applyLocation simplex location ⌝ }
+    ensures answer { λ r. ⌜ r ≡ applyLocation simplex location ⌝ }
+    ensures told { λ r. ⌜ Told applicationNumber noValues (r .outcome) (applyLocation simplex location .outcome) ⌝ }
 {
     if simplex.is_simplex() {
         if has_location(simplex.dim, location) {

@@ -1,8 +1,9 @@
 // Where the origin projects on a simplex: the first half of `project_origin_and_reduce`. The simplex stays as it is.
 ghost use mathlib.Core.Path.{_≡_};
 ghost use lib.Ieee.{binary32};
+ghost use Rattle.number.specs.Told.{Told};
 ghost use Rattle.reduction.specs.Reduction.{segmentLocation, triangleLocation, tetrahedronLocation};
-ghost use Rattle.reduction.specs.Reduction.{locateSegment, locateTriangle, locateTetrahedron, findLocation, projectOrigin};
+ghost use Rattle.reduction.specs.Reduction.{locateSegment, locateTriangle, locateTetrahedron, findLocation, projectOrigin, projectedNumber, projectedValues};
 use projection::Segment;
 use projection::SegmentPointLocation;
 use projection::SegmentProjection;
@@ -120,7 +121,8 @@ fn find_location(s: VoronoiSimplex) -> Projected
 
 // The origin's projection on the simplex, and its location.
 pub fn project_origin(simplex: VoronoiSimplex) -> Projected
-    ensures { λ r. ⌜ r ≡ projectOrigin binary32 simplex ⌝ }
+    ensures answer { λ r. ⌜ r ≡ projectOrigin binary32 simplex ⌝ }
+    ensures told { λ r. ⌜ Told projectedNumber projectedValues r (projectOrigin binary32 simplex) ⌝ }
 {
     if simplex.is_simplex() {
         return find_location(simplex);

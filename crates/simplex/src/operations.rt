@@ -2,9 +2,11 @@
 // hands it back as it came in.
 ghost use mathlib.Core.Path.{_≡_};
 ghost use lib.Ieee.{binary32};
+ghost use Rattle.number.specs.Told.{Told, noValues};
 ghost use Rattle.simplex.specs.Operations.{swapSimplex, resetSimplex, addPoint, modifyPnts};
 ghost use Rattle.simplex.specs.Operations.{projCoord, cornerPoint, prevProjCoord, prevPoint};
 ghost use Rattle.simplex.specs.Operations.{containsPoint, dimensionOf, prevDimensionOf, maxSqLen};
+ghost use Rattle.simplex.specs.Operations.{outcomeNumber, answerNumber, answerValue, numberNumber, numberValue, sizeNumber, sizeValue, cornerNumber, cornerValue};
 use crate::steps;
 use crate::voronoi_simplex::VoronoiSimplex;
 use shape::Vertex;
@@ -54,7 +56,8 @@ pub enum Corner {
 impl VoronoiSimplex {
     // Two vertices change places.
     pub fn swap(self, i1: usize, i2: usize) -> Altered
-        ensures { λ r. ⌜ r ≡ swapSimplex self i1 i2 ⌝ }
+        ensures answer { λ r. ⌜ r ≡ swapSimplex self i1 i2 ⌝ }
+        ensures told { λ r. ⌜ Told outcomeNumber noValues (r .outcome) (swapSimplex self i1 i2 .outcome) ⌝ }
     {
         if self.is_simplex() & (i1 < 4) & (i2 < 4) {
             let simplex = steps::swap_in(self, i1, i2);
@@ -71,7 +74,8 @@ impl VoronoiSimplex {
 
     // The simplex becomes the one vertex.
     pub fn reset(self, pt: Vertex) -> Altered
-        ensures { λ r. ⌜ r ≡ resetSimplex self pt ⌝ }
+        ensures answer { λ r. ⌜ r ≡ resetSimplex self pt ⌝ }
+        ensures told { λ r. ⌜ Told outcomeNumber noValues (r .outcome) (resetSimplex self pt .outcome) ⌝ }
     {
         if self.is_simplex() {
             let simplex = steps::reset_in(self, pt);
@@ -89,7 +93,8 @@ impl VoronoiSimplex {
     // Adds a vertex, and answers no where it would add nothing. Either way the previous dimension, weights
     // and places are kept first. Dimension 3 is refused.
     pub fn add_point(self, pt: Vertex) -> Added
-        ensures { λ r. ⌜ r ≡ addPoint binary32 self pt ⌝ }
+        ensures answer { λ r. ⌜ r ≡ addPoint binary32 self pt ⌝ }
+        ensures told { λ r. ⌜ Told answerNumber answerValue (r .answer) (addPoint binary32 self pt .answer) ⌝ }
     {
         if self.is_simplex() & (self.dim < 3) {
             let saved = steps::saved_in(self);
@@ -113,7 +118,8 @@ impl VoronoiSimplex {
 
     // Weight i of the last projection: there are three, though there may be four vertices.
     pub fn proj_coord(self, i: usize) -> Number
-        ensures { λ r. ⌜ r ≡ projCoord self i ⌝ }
+        ensures answer { λ r. ⌜ r ≡ projCoord self i ⌝ }
+        ensures told { λ r. ⌜ Told numberNumber numberValue r (projCoord self i) ⌝ }
     {
         if self.is_simplex() & (i <= self.dim) & (i < 3) {
             return Number::Is(self.proj[i]);
@@ -123,7 +129,8 @@ impl VoronoiSimplex {
 
     // Vertex i.
     pub fn point(self, i: usize) -> Corner
-        ensures { λ r. ⌜ r ≡ cornerPoint self i ⌝ }
+        ensures answer { λ r. ⌜ r ≡ cornerPoint self i ⌝ }
+        ensures told { λ r. ⌜ Told cornerNumber cornerValue r (cornerPoint self i) ⌝ }
     {
         if self.is_simplex() & (i <= self.dim) {
             let v = self.vertices[i];
@@ -134,7 +141,8 @@ impl VoronoiSimplex {
 
     // Weight i before the last `add_point`.
     pub fn prev_proj_coord(self, i: usize) -> Number
-        ensures { λ r. ⌜ r ≡ prevProjCoord self i ⌝ }
+        ensures answer { λ r. ⌜ r ≡ prevProjCoord self i ⌝ }
+        ensures told { λ r. ⌜ Told numberNumber numberValue r (prevProjCoord self i) ⌝ }
     {
         if self.is_simplex() & (i <= self.prev_dim) & (i < 3) {
             return Number::Is(self.prev_proj[i]);
@@ -145,7 +153,8 @@ impl VoronoiSimplex {
     // Vertex i before the last `add_point`, wherever a reduction has swapped it since. Where a face reduction has
     // written the last vertex over its place, the new vertex shows.
     pub fn prev_point(self, i: usize) -> Corner
-        ensures { λ r. ⌜ r ≡ prevPoint self i ⌝ }
+        ensures answer { λ r. ⌜ r ≡ prevPoint self i ⌝ }
+        ensures told { λ r. ⌜ Told cornerNumber cornerValue r (prevPoint self i) ⌝ }
     {
         if self.is_simplex() & (i <= self.prev_dim) {
             let place = self.prev_vertices[i];
@@ -157,7 +166,8 @@ impl VoronoiSimplex {
 
     // Whether a vertex of the simplex has just this point.
     pub fn contains_point(self, pt: Vec3) -> Answer
-        ensures { λ r. ⌜ r ≡ containsPoint self pt ⌝ }
+        ensures answer { λ r. ⌜ r ≡ containsPoint self pt ⌝ }
+        ensures told { λ r. ⌜ Told answerNumber answerValue r (containsPoint self pt) ⌝ }
     {
         if self.is_simplex() {
             if steps::has_point(self, pt) {
@@ -169,7 +179,8 @@ impl VoronoiSimplex {
     }
 
     pub fn dimension(self) -> Size
-        ensures { λ r. ⌜ r ≡ dimensionOf self ⌝ }
+        ensures answer { λ r. ⌜ r ≡ dimensionOf self ⌝ }
+        ensures told { λ r. ⌜ Told sizeNumber sizeValue r (dimensionOf self) ⌝ }
     {
         if self.is_simplex() {
             return Size::Is(self.dim);
@@ -178,7 +189,8 @@ impl VoronoiSimplex {
     }
 
     pub fn prev_dimension(self) -> Size
-        ensures { λ r. ⌜ r ≡ prevDimensionOf self ⌝ }
+        ensures answer { λ r. ⌜ r ≡ prevDimensionOf self ⌝ }
+        ensures told { λ r. ⌜ Told sizeNumber sizeValue r (prevDimensionOf self) ⌝ }
     {
         if self.is_simplex() {
             return Size::Is(self.prev_dim);
@@ -188,7 +200,8 @@ impl VoronoiSimplex {
 
     // The greatest squared length of a vertex's point; 0 where none compares greater.
     pub fn max_sq_len(self) -> Number
-        ensures { λ r. ⌜ r ≡ maxSqLen binary32 self ⌝ }
+        ensures answer { λ r. ⌜ r ≡ maxSqLen binary32 self ⌝ }
+        ensures told { λ r. ⌜ Told numberNumber numberValue r (maxSqLen binary32 self) ⌝ }
     {
         if self.is_simplex() {
             return Number::Is(steps::max_sq_len_in(self));
@@ -198,7 +211,8 @@ impl VoronoiSimplex {
 
     // Every vertex is translated by `dir`: the Rust applies a function, and its one caller translates.
     pub fn modify_pnts(self, dir: Vec3) -> Altered
-        ensures { λ r. ⌜ r ≡ modifyPnts binary32 self dir ⌝ }
+        ensures answer { λ r. ⌜ r ≡ modifyPnts binary32 self dir ⌝ }
+        ensures told { λ r. ⌜ Told outcomeNumber noValues (r .outcome) (modifyPnts binary32 self dir .outcome) ⌝ }
     {
         if self.is_simplex() {
             let simplex = steps::translated_in(self, dir);

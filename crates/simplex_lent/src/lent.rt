@@ -2,8 +2,9 @@
 // What is refused leaves it as it came in, for the operation by value hands it back so.
 ghost use mathlib.Core.Path.{_≡_};
 ghost use lib.Ieee.{binary32};
+ghost use Rattle.number.specs.Told.{Told};
 ghost use Rattle.simplex.specs.Operations.{resetSimplex, addPoint};
-ghost use Rattle.reduction.specs.Reduction.{projectOrigin, applyLocation, projectOriginAndReduce};
+ghost use Rattle.reduction.specs.Reduction.{projectOrigin, projectedNumber, projectedValues, applyLocation, projectOriginAndReduce};
 use crate::turns::in_turn;
 use reduction::Application;
 use reduction::Location;
@@ -33,7 +34,8 @@ pub fn add_point(s: &mut VoronoiSimplex, pt: Vertex) -> Answer
 
 // Where the origin projects on the simplex, which stays as it is.
 pub fn project_origin(s: &VoronoiSimplex) -> Projected
-    ensures { λ r. ⌜ r ≡ projectOrigin binary32 (now (s .entry)) ⌝ }
+    ensures answer { λ r. ⌜ r ≡ projectOrigin binary32 (now (s .entry)) ⌝ }
+    ensures told { λ r. ⌜ Told projectedNumber projectedValues r (projectOrigin binary32 (now (s .entry))) ⌝ }
 {
     reduction::project_origin(*s)
 }

@@ -2,7 +2,8 @@
 // The tests stand in the Rust's order, and the first that holds answers.
 ghost use mathlib.Core.Path.{_≡_};
 ghost use lib.Ieee.{binary32};
-ghost use Rattle.tetrahedron.specs.Tetrahedron.{projectTetrahedron};
+ghost use Rattle.number.specs.Told.{Told};
+ghost use Rattle.tetrahedron.specs.Tetrahedron.{projectTetrahedron, tetrahedronNumber, tetrahedronValues};
 ghost use Rattle.tetrahedron.specs.Tetrahedron.{differences, onVertex, vertexRegion, onEdge, checkEdge, checkEdges};
 ghost use Rattle.tetrahedron.specs.Tetrahedron.{onFace, checkFace, faceAbc, faceAbd, faceAcd, faceBcd, checkFaces};
 
@@ -43,7 +44,8 @@ pub enum TetrahedronProjection {
 
 impl Tetrahedron {
     pub fn project_local_point_and_get_location(self, pt: Vec3) -> TetrahedronProjection
-        ensures { λ r. ⌜ r ≡ projectTetrahedron binary32 self pt ⌝ }
+        ensures answer { λ r. ⌜ r ≡ projectTetrahedron binary32 self pt ⌝ }
+        ensures told { λ r. ⌜ Told tetrahedronNumber tetrahedronValues r (projectTetrahedron binary32 self pt) ⌝ }
     {
         let v = self.differences(pt);
         let k = v.dots();

@@ -3,6 +3,7 @@ use Prim.Native.Nat.{ℕ, zero, suc, _+_}
 use mathlib.Core.Bool.{Bool, cond}
 use lib.Dec.{ltb}
 use lib.Ieee.{Format}
+use Rattle.vector.specs.declared.vec3.Vec3.{Vec3}
 use Rattle.vector.specs.Vector.{zeroV, addV, scaleV}
 use Rattle.simplex.specs.declared.voronoi_simplex.VoronoiSimplex.{VoronoiSimplex}
 use Rattle.simplex.specs.declared.operations.Number.{Number}
@@ -13,7 +14,20 @@ use Rattle.simplex.specs.Operations.{projCoord, cornerPoint, prevProjCoord, pre
 use Rattle.witnesses.specs.declared.Witnesses.{Witnesses}
 use Rattle.witnesses.specs.declared.Witnesses.the-variants.{At, Refused}
 
--- the previous weights, vertices and dimension, or the present ones
+-- ---- document 01's number of the answer, 0 or refusal 2, and its values: the point on each shape, zeros where it is refused
+unfoldable pub witnessesNumber : Witnesses → ℕ
+witnessesNumber (At p1 p2) = 0
+witnessesNumber Refused = 2
+
+pub record Values : Type 0 where
+  pub p1 : Vec3
+  pub p2 : Vec3
+
+unfoldable pub witnessesValues : Witnesses → Values
+witnessesValues (At p1 p2) = record { p1 = p1; p2 = p2 }
+witnessesValues Refused = record { p1 = zeroV; p2 = zeroV }
+
+-- ---- the previous weights, vertices and dimension, or the present ones
 unfoldable pub weightOf : VoronoiSimplex → Bool → ℕ → Number
 weightOf s prev i = cond prev (prevProjCoord s i) (projCoord s i)
 

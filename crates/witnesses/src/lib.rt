@@ -2,7 +2,8 @@
 ghost use mathlib.Core.Path.{_≡_};
 ghost use Prim.Native.Nat.{_≤_};
 ghost use lib.Ieee.{binary32};
-ghost use Rattle.witnesses.specs.Witnesses.{weightOf, cornerOf, lastOf, withVertex, witnessesTo, resultOf};
+ghost use Rattle.number.specs.Told.{Told};
+ghost use Rattle.witnesses.specs.Witnesses.{weightOf, cornerOf, lastOf, withVertex, witnessesTo, resultOf, witnessesNumber, witnessesValues};
 use simplex::Corner;
 use simplex::Number;
 use simplex::VoronoiSimplex;
@@ -77,7 +78,8 @@ fn witnesses_to(simplex: VoronoiSimplex, prev: bool, end: usize) -> Witnesses
 }
 
 pub fn result(simplex: VoronoiSimplex, prev: bool) -> Witnesses
-    ensures { λ r. ⌜ r ≡ resultOf binary32 simplex prev ⌝ }
+    ensures answer { λ r. ⌜ r ≡ resultOf binary32 simplex prev ⌝ }
+    ensures told { λ r. ⌜ Told witnessesNumber witnessesValues r (resultOf binary32 simplex prev) ⌝ }
 {
     let last = last_of(simplex, prev);
     if last < 4 {

@@ -18,17 +18,17 @@ read c = search
 
 returns-2 : tie.Need-returns-2
 returns-2 c =
-    whole binary32 _ _ _ _ _ _ _ (place tie.Else1 (search) .if1 .left) (read (separated (search)) .read-case .ensures) (place tie.After-found (search) .found .given .1)
+    whole binary32 _ _ _ _ _ _ _ (place tie.Else1 (search) .if1 .left) (read (separated (search)) .read-case .ensures .0) (place tie.After-found (search) .found .given .1)
     (separated (search) .separate .ensures) (place tie.After-write-line (search) .write-line .ensures) (c .line-turn .ensures)
 
 returns-3 : tie.Need-returns-3
 returns-3 c =
-    malformed binary32 _ _ _ _ _ _ _ (place tie.Else1 (search) .if1 .left) (place tie.After-read-case (search) .read-case .ensures) (place tie.After-write-bad (search) .write-bad .ensures)
+    malformed binary32 _ _ _ _ _ _ _ (place tie.Else1 (search) .if1 .left) (place tie.After-read-case (search) .read-case .ensures .0) (place tie.After-write-bad (search) .write-bad .ensures)
     (c .bad-turn .ensures) (place tie.After-found2 (search) .found2 .given .1) (place tie.After-offset-of (search) .offset-of .ensures)
 
 returns-4 : tie.Need-returns-4
 returns-4 c =
-    cut binary32 _ _ _ _ _ _ _ (place tie.Else1 (search) .if1 .left) (place tie.After-read-case (search) .read-case .ensures) (place tie.After-write-bad2 (search) .write-bad2 .ensures)
+    cut binary32 _ _ _ _ _ _ _ (place tie.Else1 (search) .if1 .left) (place tie.After-read-case (search) .read-case .ensures .0) (place tie.After-write-bad2 (search) .write-bad2 .ensures)
     (c .bad-turn2 .ensures) (place tie.After-enum-told (search) .enum-told .given .1) (place tie.After-offset-of2 (search) .offset-of2 .ensures)
 
 pub answer-next-spec : {M : Type 1} → statement M

@@ -5,11 +5,11 @@ use Rattle.witnesses.proofs.weight_of.Tie as tie
 
 returns : tie.Need-returns
 unfolding weightOf
-returns c = simp (← c .prev-proj-coord .ensures, c .before .if1 .taken)
+returns c = simp (← c .prev-proj-coord .ensures .0, c .before .if1 .taken)
 
 returns-2 : tie.Need-returns-2
 unfolding weightOf
-returns-2 c = simp (← c .proj-coord .ensures, c .before .if1 .left)
+returns-2 c = simp (← c .proj-coord .ensures .0, c .before .if1 .left)
 
 pub weight-of-spec : {M : Type 1} → statement M
 weight-of-spec = tie.close (tie.spec (λ c κs. tt) (λ c κs. tt) returns returns-2)

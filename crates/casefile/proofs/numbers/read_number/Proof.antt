@@ -3,19 +3,20 @@ use Prim.Native.Nat.{_%_}
 use mathlib.Core.Path.{sym, ap, _∙_}
 use native.Mathlib.Omega.{arith}
 use borrow.Author.Needs.{needs}
+use Rattle.number.proofs.Told.{both}
 use Rattle.casefile.specs.Numbers.{joined}
 use Rattle.casefile.proofs.Groups.{first-ended, first-last, first-more, joinable}
 use Rattle.casefile.proofs.numbers.read_number.Statement.{statement}
 use Rattle.casefile.proofs.numbers.read_number.Tie as tie
 
 returns : tie.Need-returns
-returns c = let a = c .before .before .args in sym (first-ended (a .bytes .now) (a .at) (c .if1 .taken))
+returns c = let a = c .before .before .args in both (sym (first-ended (a .bytes .now) (a .at) (c .if1 .taken)))
 
 returns-2 : tie.Need-returns-2
 returns-2 c =
     let w = c .before in
     let a = w .before .before .before .before .args in
-    sym (first-last (a .bytes .now) (a .at) (w .wide .result) (w .before .before .if1 .left) (w .wide .ensures) (c .if2 .taken))
+    both (sym (first-last (a .bytes .now) (a .at) (w .wide .result) (w .before .before .if1 .left) (w .wide .ensures) (c .if2 .taken)))
 
 joined-requires : tie.Need-joined-requires
 joined-requires c κs = (omega arith, joinable _ _ _ _ (omega arith) (c .later .ensures))
@@ -25,8 +26,9 @@ returns-3 c =
     let l = c .before in
     let w = l .before .before in
     let a = w .before .before .before .before .args in
-    c .joined .ensures ∙ ap (joined (w .wide .result % 128)) (l .later .ensures)
-    ∙ sym (first-more (a .bytes .now) (a .at) (w .wide .result) (w .before .before .if1 .left) (w .wide .ensures) (l .before .if2 .left))
+    both
+    (c .joined .ensures ∙ ap (joined (w .wide .result % 128)) (l .later .ensures)
+    ∙ sym (first-more (a .bytes .now) (a .at) (w .wide .result) (w .before .before .if1 .left) (w .wide .ensures) (l .before .if2 .left)))
 
 pub read-number-spec : {M : Type 1} → statement M
 read-number-spec =

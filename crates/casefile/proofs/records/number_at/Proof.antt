@@ -6,15 +6,15 @@ use Rattle.casefile.proofs.records.number_at.Tie as tie
 
 returns : tie.Need-returns
 unfolding numberAt
-returns c = simp (← c .before .before .before .read-number .ensures, c .before .answer .given .1, c .before .before .before .before .before .reading .given .1)
+returns c = simp (← c .before .before .before .read-number .ensures .0, c .before .answer .given .1, c .before .before .before .before .before .reading .given .1)
 
 returns-2 : tie.Need-returns-2
 unfolding numberAt
-returns-2 c = simp (← c .before .before .read-number .ensures, c .enum-told .given .1, c .before .before .before .before .reading .given .1)
+returns-2 c = simp (← c .before .before .read-number .ensures .0, c .enum-told .given .1, c .before .before .before .before .reading .given .1)
 
 returns-3 : tie.Need-returns-3
 unfolding numberAt
-returns-3 c = simp (← c .before .before .read-number .ensures, c .enum-told2 .given .1, c .before .before .before .before .reading .given .1)
+returns-3 c = simp (← c .before .before .read-number .ensures .0, c .enum-told2 .given .1, c .before .before .before .before .reading .given .1)
 
 returns-4 : tie.Need-returns-4
 unfolding numberAt

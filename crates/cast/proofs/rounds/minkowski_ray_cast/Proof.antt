@@ -1,14 +1,9 @@
 -- `minkowski_ray_cast` returns `minkowskiRayCast`, and has its number and values.
-use mathlib.Core.Path.{_≡_, ap}
 use borrow.Author.Needs.{needs}
-use Rattle.cast.specs.declared.rounds.Cast.{Cast}
-use Rattle.cast.specs.Cast.{after, minkowskiRayCast, told}
+use Rattle.number.proofs.Told.{both}
+use Rattle.cast.specs.Cast.{after, minkowskiRayCast}
 use Rattle.cast.proofs.rounds.minkowski_ray_cast.Statement.{statement}
 use Rattle.cast.proofs.rounds.minkowski_ray_cast.Tie as tie
-
--- the same answer has the same number and values
-both : {x y : Cast} → x ≡ y → (x ≡ y) × (told x ≡ told y)
-both e = (e, ap told e)
 
 returns : tie.Need-returns
 unfolding minkowskiRayCast

@@ -1,5 +1,6 @@
 -- `point` returns `cornerPoint`, by its joined test.
 use native.Mathlib.Omega.{arith}
+use Rattle.number.proofs.Told.{both}
 use Rattle.simplex.specs.Operations.{cornerPoint}
 use Rattle.simplex.proofs.Laws.{one-place}
 use Rattle.simplex.proofs.voronoi_simplex.VoronoiSimplex.point.Statement.{statement}
@@ -13,11 +14,11 @@ element-copy-out-v c = let h = one-place (c .before .before .args .t1) (c .befor
 
 returns : tie.Need-returns
 unfolding cornerPoint
-returns c = simp (← c .before .before .is-simplex .ensures, c .before .if1 .taken)
+returns c = both (simp (← c .before .before .is-simplex .ensures, c .before .if1 .taken))
 
 returns-2 : tie.Need-returns-2
 unfolding cornerPoint
-returns-2 c = simp (← c .before .is-simplex .ensures, c .if1 .left)
+returns-2 c = both (simp (← c .before .is-simplex .ensures, c .if1 .left))
 
 pub point-spec : {M : Type 1} → statement M
 point-spec = tie.close (tie.spec (λ c κs. tt) mul-v element-copy-out-v returns returns-2)

@@ -1,5 +1,6 @@
 -- `prev_point` returns `prevPoint`, by its joined test.
 use native.Mathlib.Omega.{arith}
+use Rattle.number.proofs.Told.{both}
 use Rattle.simplex.specs.Operations.{prevPoint}
 use Rattle.simplex.proofs.Laws.{one-place}
 use Rattle.simplex.proofs.voronoi_simplex.VoronoiSimplex.prev_point.Statement.{statement}
@@ -19,11 +20,11 @@ element-copy-out-v c = let h = one-place (c .before .before .before .args .t1) (
 
 returns : tie.Need-returns
 unfolding prevPoint
-returns c = simp (← c .before .before .before .is-simplex .ensures, c .before .before .if1 .taken)
+returns c = both (simp (← c .before .before .before .is-simplex .ensures, c .before .before .if1 .taken))
 
 returns-2 : tie.Need-returns-2
 unfolding prevPoint
-returns-2 c = simp (← c .before .is-simplex .ensures, c .if1 .left)
+returns-2 c = both (simp (← c .before .is-simplex .ensures, c .if1 .left))
 
 pub prev-point-spec : {M : Type 1} → statement M
 prev-point-spec = tie.close (tie.spec (λ c κs. tt) mul-place element-copy-out-place mul-v element-copy-out-v returns returns-2)

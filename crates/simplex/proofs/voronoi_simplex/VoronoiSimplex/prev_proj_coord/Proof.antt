@@ -1,5 +1,6 @@
 -- `prev_proj_coord` returns `prevProjCoord`, by its joined test.
 use native.Mathlib.Omega.{arith}
+use Rattle.number.proofs.Told.{both}
 use Rattle.simplex.specs.Operations.{prevProjCoord}
 use Rattle.simplex.proofs.Laws.{one-weight}
 use Rattle.simplex.proofs.voronoi_simplex.VoronoiSimplex.prev_proj_coord.Statement.{statement}
@@ -13,11 +14,11 @@ element-copy-out-t14 c = let h = one-weight (c .before .before .args .t1) (c .be
 
 returns : tie.Need-returns
 unfolding prevProjCoord
-returns c = simp (← c .before .before .is-simplex .ensures, c .before .if1 .taken)
+returns c = both (simp (← c .before .before .is-simplex .ensures, c .before .if1 .taken))
 
 returns-2 : tie.Need-returns-2
 unfolding prevProjCoord
-returns-2 c = simp (← c .before .is-simplex .ensures, c .if1 .left)
+returns-2 c = both (simp (← c .before .is-simplex .ensures, c .if1 .left))
 
 pub prev-proj-coord-spec : {M : Type 1} → statement M
 prev-proj-coord-spec = tie.close (tie.spec (λ c κs. tt) mul-t11 element-copy-out-t14 returns returns-2)

@@ -1,0 +1,2 @@
+-- What the walks by hand of this crate share.
+mod Clauses
