@@ -1,2 +1,3 @@
--- Laws of the definitions: what is a simplex.
+-- Laws of the definitions: what is a simplex, and where an operation is refused.
 pub mod Laws
+pub mod Numbers
