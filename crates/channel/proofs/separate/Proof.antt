@@ -9,27 +9,27 @@ use Rattle.channel.proofs.separate.Tie as tie
 
 returns : tie.Need-returns
 returns c =
-    meets binary32 _ _ _ _ _ _ _ (place tie.After-start-of (search) .start-of .ensures) (place tie.After-closest-points (search) .closest-points .ensures)
+    meets binary32 _ _ _ _ _ _ _ (place tie.After-start-of (search) .start-of .ensures) (place tie.After-closest-points (search) .closest-points .ensures .0)
     (place tie.After-enum-told (search) .enum-told .given .1) (place tie.After-closest-points2 (search) .closest-points2 .ensures) (c .outcome-of .ensures)
 
 returns-2 : tie.Need-returns-2
 returns-2 c =
-    apart binary32 _ _ _ _ _ _ _ (place tie.After-start-of (search) .start-of .ensures) (place tie.After-closest-points (search) .closest-points .ensures)
+    apart binary32 _ _ _ _ _ _ _ (place tie.After-start-of (search) .start-of .ensures) (place tie.After-closest-points (search) .closest-points .ensures .0)
     (place tie.After-result (search) .result .given .1) (λ m k. refl)
 
 returns-3 : tie.Need-returns-3
 returns-3 c =
-    apart binary32 _ _ _ _ _ _ _ (place tie.After-start-of (search) .start-of .ensures) (place tie.After-closest-points (search) .closest-points .ensures)
+    apart binary32 _ _ _ _ _ _ _ (place tie.After-start-of (search) .start-of .ensures) (place tie.After-closest-points (search) .closest-points .ensures .0)
     (place tie.After-result2 (search) .result2 .given .1) (λ m k. refl)
 
 returns-4 : tie.Need-returns-4
 returns-4 c =
-    apart binary32 _ _ _ _ _ _ _ (place tie.After-start-of (search) .start-of .ensures) (place tie.After-closest-points (search) .closest-points .ensures)
+    apart binary32 _ _ _ _ _ _ _ (place tie.After-start-of (search) .start-of .ensures) (place tie.After-closest-points (search) .closest-points .ensures .0)
     (place tie.After-result3 (search) .result3 .given .1) (λ m k. refl)
 
 returns-5 : tie.Need-returns-5
 returns-5 c =
-    apart binary32 _ _ _ _ _ _ _ (place tie.After-start-of (search) .start-of .ensures) (place tie.After-closest-points (search) .closest-points .ensures)
+    apart binary32 _ _ _ _ _ _ _ (place tie.After-start-of (search) .start-of .ensures) (place tie.After-closest-points (search) .closest-points .ensures .0)
     (c .enum-told2 .given .1) (λ m k. refl)
 
 pub separate-spec : {M : Type 1} → statement M

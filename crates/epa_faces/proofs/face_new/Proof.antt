@@ -19,7 +19,7 @@ returns c =
       ← at-tol .polytope-tol .ensures,
       ← at-inside .is-inside-eps .ensures,
       ← at-normal .face-normal .ensures,
-      ← at-coordinates .barycentric-coordinates .ensures,
+      ← at-coordinates .barycentric-coordinates .ensures .0,
       ← at-weights-or .weights-or .ensures,
       ← c .holds-at .ensures,
     )

@@ -25,17 +25,17 @@ abbrev Found : Type 0
 Found = tie.After-face Inv-loop μ-loop
 
 returns : tie.Need-returns Inv-loop μ-loop
-returns c k = pop-empty (place At (search) .loop .inv) (place Out (search) .pop .ensures) (c .match .keys2) k
+returns c k = pop-empty (place At (search) .loop .inv) (place Out (search) .pop .ensures .0) (c .match .keys2) k
 
 returns-2 : tie.Need-returns-2 Inv-loop μ-loop
-returns-2 c k = pop-live (place At (search) .loop .inv) (place Out (search) .pop .ensures) (place Found (search) .face .given .1) (place (tie.After-deleted-at Inv-loop μ-loop) (search) .deleted-at .ensures) (c .if1 .taken) k
+returns-2 c k = pop-live (place At (search) .loop .inv) (place Out (search) .pop .ensures .0) (place Found (search) .face .given .1) (place (tie.After-deleted-at Inv-loop μ-loop) (search) .deleted-at .ensures) (c .if1 .taken) k
 
 loop-less : tie.Need-loop-less Inv-loop μ-loop
-loop-less c = pop-less (place At (search) .loop .inv) (place Out (search) .pop .ensures) (place Found (search) .face .given .1)
+loop-less c = pop-less (place At (search) .loop .inv) (place Out (search) .pop .ensures .0) (place Found (search) .face .given .1)
 
 loop-again : tie.Need-loop-again Inv-loop μ-loop
 loop-again c =
-    pop-again (place At (search) .loop .inv) (place Out (search) .pop .ensures) (place Found (search) .face .given .1) (place (tie.After-deleted-at Inv-loop μ-loop) (search) .deleted-at .ensures) (c .if1 .left)
+    pop-again (place At (search) .loop .inv) (place Out (search) .pop .ensures .0) (place Found (search) .face .given .1) (place (tie.After-deleted-at Inv-loop μ-loop) (search) .deleted-at .ensures) (c .if1 .left)
     (place Out (search) .pop .kept .0) (place Out (search) .pop .kept .1 .0)
 
 pub pop-live-spec : {M : Type 1} → statement M
