@@ -5,3 +5,4 @@ pub mod Places
 pub mod Answers
 pub mod Told
 pub mod Examples
+pub mod Ordered

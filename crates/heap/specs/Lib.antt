@@ -2,3 +2,4 @@
 pub mod Heap
 pub mod Calls
 pub mod Order
+pub mod Ordered
