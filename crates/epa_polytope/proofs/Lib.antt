@@ -40,3 +40,6 @@ pub mod Expanding
 pub mod Visiting
 pub mod Popping
 pub mod Looping
+pub mod DistancesWalks
+pub mod DistancesPops
+pub mod Distances

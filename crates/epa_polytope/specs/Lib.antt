@@ -9,6 +9,7 @@ pub mod Run
 pub mod Bounds
 pub mod Rule
 pub mod Demand3
+pub mod Distances
 pub mod Same
 pub mod Contracts
 pub mod Code

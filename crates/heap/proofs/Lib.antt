@@ -6,3 +6,4 @@ pub mod Answers
 pub mod Told
 pub mod Examples
 pub mod Ordered
+pub mod Multiset
