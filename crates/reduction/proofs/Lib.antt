@@ -2,3 +2,4 @@
 pub mod Fits
 pub mod Has
 pub mod Swaps
+pub mod Kept
