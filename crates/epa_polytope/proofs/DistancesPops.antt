@@ -1,27 +1,27 @@
--- The entries that a run pops, one after another, each against the one before it (`Chain`). Two things are followed through the loop, by what is known of the heap: with no NaN key, that each key popped is
--- not NaN and at most the one before it (`chained`); and with no NaN among the popped keys alone, that no key is refused (`loop-not-later`). Of any run. Assumes nothing.
-use mathlib.Core.Path.{_≡_, refl, sym, ap, subst, _∙_}
+-- The entries that a run pops, one after another, each against the one before it (`Chain`). Two things are followed through the loop, by what is known of the heap: with no NaN key, that each key
+-- popped was made and is at most the one before it (`chained`); and with no NaN among the popped keys alone, that no key is refused (`loop-not-later`). Of any run. Assumes nothing.
+use mathlib.Core.Path.{_≡_, refl, _∙_}
 use mathlib.Core.Bool.{Bool, true, false, cond}
 use mathlib.Core.List.{List, [], _∷_, _++_}
-use mathlib.Core.Option.{Option, none, some}
-use Prim.Native.Nat.{ℕ, zero, suc, _+_, _<_, _≤_}
+use mathlib.Core.Option.{Option, some}
+use Prim.Native.Nat.{ℕ, zero, suc, _+_, _<_}
 use native.Mathlib.Omega.{arith}
 use lib.Dec.{eqb}
-use lib.ListN.{length, getD}
-use lib.Ieee.{Float, nan, lt, le, neg, isNan}
+use lib.ListN.{length}
+use lib.Ieee.{Float, le, neg}
 use Rattle.number.proofs.Order.{lt-neg-neg, neg-not-nan, lt-irrefl, not-less-trans, le-of-not-less}
 use Rattle.heap.specs.Heap.{Heap, Entry, entryAt, pushed, popped}
 use Rattle.heap.specs.Ordered.{keyAt, Held, NotNan, AtMost, Ordered}
 use Rattle.heap.proofs.Ordered.{pushed-held, popped-held, pushed-ordered, popped-ordered, first-greatest}
 use Rattle.epa_polytope.specs.Stores.{State, heapOf, deletedAt}
-use Rattle.epa_polytope.specs.Steps.{End, Out, onward, ended, next, Act, Over, _>>=_, _>>_, pure, look, put, branch, answer}
+use Rattle.epa_polytope.specs.Steps.{End, Out, onward, ended, next, _>>=_, _>>_, pure, look, put, branch}
 use Rattle.epa_polytope.specs.Start.{World}
 use Rattle.epa_polytope.specs.Run.{Best, popEntry, popLive, iterate, loop}
 use Rattle.epa_polytope.specs.Demand3.{Carried, oneMore, rest}
-use Rattle.epa_polytope.specs.Distances.{along, eachExpansion, poppedFrom, poppedIn, keysTo, keysOfExpansion, Every, distanceOf, NeverFalls}
+use Rattle.epa_polytope.specs.Distances.{along, eachExpansion, poppedFrom, poppedIn, keysOfExpansion, Every, distanceOf, NeverFalls}
 use Rattle.epa_polytope.proofs.Heaps.{inside-popped}
 use Rattle.epa_polytope.proofs.Moves.{withPop}
-use Rattle.epa_polytope.proofs.Steps.{Meets, goes, ends, meets-bind, meets-pure, meets-map}
+use Rattle.epa_polytope.proofs.Steps.{Meets, goes, meets-bind}
 use Rattle.epa_polytope.proofs.DistancesWalks.{NotLater, IsKey, every-append, meets-along, meets-answer, meets-oneMore}
 
 -- ---- entries in a row
@@ -80,75 +80,79 @@ module _ (R : Float → Float → Type 0) (I : Float → Heap → Type 0)
 
 -- ---- with no NaN key
 
--- no key is NaN, they are in order, and each is at most b
-pub record Queue (b : Float) (h : Heap) : Type 0 where
-  pub real : Held NotNan h
-  pub order : Ordered h
-  pub most : Held (AtMost b) h
+-- a key that is at most the one before it, and has Q
+abbrev pub Falls : (Float → Type 0) → Float → Float → Type 0
+Falls Q b k = AtMost b k × Q k
 
--- a key that is not NaN, and at most the one before it
-abbrev pub Falls : Float → Float → Type 0
-Falls b k = AtMost b k × NotNan k
+-- Q is known of each key that is made, and says at least that it is not NaN
+module _ (Q : Float → Type 0) (real : (k : Float) → Q k → NotNan k) where
+  -- each key has Q and is at most b, and they are in order
+  pub record Queue (b : Float) (h : Heap) : Type 0 where
+    pub each : Held Q h
+    pub order : Ordered h
+    pub most : Held (AtMost b) h
 
-queue-popped : (b : Float) (h : Heap) (n : ℕ) → h .count ≡ suc n → Queue b h → Falls b (keyAt h 0) × Queue (keyAt h 0) (popped h n)
-queue-popped b h n e q = (
-  (q .most .each 0 (omega arith), q .real .each 0 (omega arith)),
-  record {
-    real = popped-held NotNan h n e (q .real);
-    order = popped-ordered h n e (q .real) (q .order);
-    most = popped-held (AtMost (keyAt h 0)) h n e (first-greatest h (q .real) (q .order));
-  },
-)
+  pub all-real : {h : Heap} → Held Q h → Held NotNan h
+  all-real a = record { each = λ i l. real _ (a .each i l) }
 
-queue-pushed : (b : Float) (h : Heap) (e : Entry) → h .count < length (h .keys) → NotNan (e .key) → AtMost b (e .key) → Queue b h → Queue b (pushed h e)
-queue-pushed b h e room r m q = record {
-  real = pushed-held NotNan h e room r (q .real);
-  order = pushed-ordered h e room r (q .real) (q .order);
-  most = pushed-held (AtMost b) h e room m (q .most);
-}
+  queue-popped : (b : Float) (h : Heap) (n : ℕ) → h .count ≡ suc n → Queue b h → Falls Q b (keyAt h 0) × Queue (keyAt h 0) (popped h n)
+  queue-popped b h n e q = (
+    (q .most .each 0 (omega arith), q .each .each 0 (omega arith)),
+    record {
+      each = popped-held Q h n e (q .each);
+      order = popped-ordered h n e (all-real (q .each)) (q .order);
+      most = popped-held (AtMost (keyAt h 0)) h n e (first-greatest h (all-real (q .each)) (q .order));
+    },
+  )
 
--- a key that comes after one that is at most the tolerance is at most the tolerance
-abbrev Low : Float → Float → Type 0
-Low tol k = NotNan k × AtMost tol k
+  queue-pushed : (b : Float) (h : Heap) (e : Entry) → h .count < length (h .keys) → Q (e .key) → AtMost b (e .key) → Queue b h → Queue b (pushed h e)
+  queue-pushed b h e room r m q = record {
+    each = pushed-held Q h e room r (q .each);
+    order = pushed-ordered h e room (real _ r) (all-real (q .each)) (q .order);
+    most = pushed-held (AtMost b) h e room m (q .most);
+  }
 
-low-falls : (tol a b : Float) → Low tol a → Falls a b → Low tol b
-low-falls tol a b l f = (f .1, not-less-trans tol a b (l .0) (l .1) (f .0))
+  -- a key that comes after one that is at most the tolerance is at most the tolerance
+  abbrev Low : Float → Float → Type 0
+  Low tol k = NotNan k × AtMost tol k
 
-module _ (w : World) (tol : Float) where
+  low-falls : (tol a b : Float) → Low tol a → Falls Q a b → Low tol b
+  low-falls tol a b l f = (real b (f .1), not-less-trans tol a b (l .0) (l .1) (f .0))
+
   -- THE KEYS POPPED, from a heap whose keys are at most b, each against the one before it
-  pub chained : (n : ℕ) (g : Carried) (s : State) (b : Float) → g .tol ≡ tol → Low tol b → Queue b (heapOf s) → Every NotNan (eachExpansion w (keysOfExpansion w) n g s)
-      → Chain Falls b (eachExpansion w poppedIn n g s)
+  pub chained : (w : World) (tol : Float) (n : ℕ) (g : Carried) (s : State) (b : Float) → g .tol ≡ tol → Low tol b → Queue b (heapOf s)
+      → Every Q (eachExpansion w (keysOfExpansion w) n g s) → Chain (Falls Q) b (eachExpansion w poppedIn n g s)
   unfolding eachExpansion
-  chained zero g s b c l q made = tt
-  chained (suc n) g s b c l q made =
+  chained w tol zero g s b c l q made = tt
+  chained w tol (suc n) g s b c l q made =
       let these = poppedIn g s in
       let k = lastOf b these in
-      let p = pops Falls Queue queue-popped b (s .tally .heap) s refl q in
-      let low : Low tol k = chain-last Falls (Low tol) (low-falls tol) b these l (p .chain) in
-      let both = every-append NotNan (keysOfExpansion w g s) _ made in
-      let m = meets-oneMore w tol k (low .0) (low .1) NotNan (Queue k) (λ h e room r most _ i. queue-pushed k h e room r most i) g c s (p .leaves) (both .0) in
-      chain-append Falls b these _ (p .chain)
-      (chain-along Falls _ NotLater k (oneMore w g s) _ (meets-along NotNan (oneMore w g s) (eachExpansion w (keysOfExpansion w) n) (both .1) m) λ g' t y.
-      chained n g' t k (y .0 .0) low (y .0 .1) (y .1))
+      let p = pops (Falls Q) Queue queue-popped b (s .tally .heap) s refl q in
+      let low : Low tol k = chain-last (Falls Q) (Low tol) (low-falls tol) b these l (p .chain) in
+      let both = every-append Q (keysOfExpansion w g s) _ made in
+      let m = meets-oneMore w tol k (low .0) (low .1) Q (Queue k) (λ h e room r most _ i. queue-pushed k h e room r most i) g c s (p .leaves) (both .0) in
+      chain-append (Falls Q) b these _ (p .chain)
+      (chain-along (Falls Q) _ NotLater k (oneMore w g s) _ (meets-along Q (oneMore w g s) (eachExpansion w (keysOfExpansion w) n) (both .1) m) λ g' t y.
+      chained w tol n g' t k (y .0 .0) low (y .0 .1) (y .1))
 
 -- ---- what a chain comes to
 
--- no key in it is NaN
-pub chain-real : (b : Float) (l : List Entry) → Chain Falls b l → Every (λ e. NotNan (e .key)) l
-chain-real b [] c = tt
-chain-real b (e ∷ l) c = (c .0 .1, chain-real (e .key) l (c .1))
+-- each key in it has Q
+pub chain-every : (Q : Float → Type 0) (b : Float) (l : List Entry) → Chain (Falls Q) b l → Every (λ e. Q (e .key)) l
+chain-every Q b [] c = tt
+chain-every Q b (e ∷ l) c = (c .0 .1, chain-every Q (e .key) l (c .1))
 
 -- the keys after b are at most b, so the distances are at least b's
-at-least : (b k : Float) → NotNan b → Falls b k → le (neg b) (neg k) ≡ true
+at-least : (b k : Float) → NotNan b → Falls NotNan b k → le (neg b) (neg k) ≡ true
 at-least b k r f = le-of-not-less (neg b) (neg k) (neg-not-nan b ∙ r) (neg-not-nan k ∙ f .1) (lt-neg-neg k b ∙ f .0)
 
-all-after : (a b : Float) (l : List Entry) → NotNan a → NotNan b → AtMost a b → Chain Falls b l → Every (λ later. le (neg a) (distanceOf later) ≡ true) l
+all-after : (a b : Float) (l : List Entry) → NotNan a → NotNan b → AtMost a b → Chain (Falls NotNan) b l → Every (λ later. le (neg a) (distanceOf later) ≡ true) l
 all-after a b [] r q m c = tt
 all-after a b (e ∷ l) r q m c =
     let k : AtMost a (e .key) = not-less-trans a b (e .key) q m (c .0 .0) in
     (at-least a (e .key) r (k, c .0 .1), all-after a (e .key) l r (c .0 .1) k (c .1))
 
-pub chain-rises : (b : Float) (l : List Entry) → Chain Falls b l → NeverFalls l
+pub chain-rises : (b : Float) (l : List Entry) → Chain (Falls NotNan) b l → NeverFalls l
 chain-rises b [] c = tt
 chain-rises b (e ∷ l) c = (all-after (e .key) (e .key) l (c .0 .1) (c .0 .1) (lt-irrefl (e .key)) (c .1), chain-rises (e .key) l (c .1))
 

@@ -1,11 +1,11 @@
--- What the steps of a run keep of its heap. Steps that queue nothing keep every fact of the heap (`keep-..`). The start keeps that each key is at most the tolerance, and, where none is NaN, that they
--- are in order (`meets-opened`). An expansion of a face with the key k, which is not NaN and at most the tolerance, keeps what each push of a key that is at most k keeps, and refuses no key
--- (`meets-oneMore`): a new key passed the test 'not nearer than the popped one', so that it is at most k. Of any run. Assumes nothing.
+-- What the steps of a run keep of its heap. Steps that queue nothing keep every fact of the heap (`keep-..`). The start keeps that each key is at most the tolerance, and, where none is NaN, that
+-- they are in order (`meets-opened`). An expansion of a face with the key k, which is not NaN and at most the tolerance, keeps what each push of a key that is at most k keeps, and refuses no
+-- key (`meets-oneMore`): a new key passed the test 'not nearer than the popped one', so that it is at most k, and k is at most the tolerance. Of any run. Assumes nothing.
 use mathlib.Core.Path.{_≡_, refl, sym, subst, _∙_}
-use mathlib.Core.Bool.{Bool, true, false, cond, true≢false}
+use mathlib.Core.Bool.{Bool, true, false, true≢false}
 use mathlib.Core.List.{List, [], _∷_, _++_}
 use mathlib.Core.Option.{Option, none, some}
-use Prim.Native.Nat.{ℕ, zero, suc, _+_, _<_, _≤_}
+use Prim.Native.Nat.{ℕ, zero, suc, _+_, _<_}
 use native.Mathlib.Omega.{arith}
 use lib.ListN.{length}
 use lib.Ieee.{Float, lt, neg}
@@ -18,8 +18,8 @@ use Rattle.heap.proofs.Ordered.{pushed-held, pushed-ordered}
 use Rattle.heap.proofs.Multiset.{not-nan-before}
 use Rattle.epa_polytope.specs.Stores.{State, Lists, Made, Three, stateOf, noneYet, roomFor, theHeap, heapOf, vertexAt, normalAt, pointAt, cornerAt}
 use Rattle.epa_polytope.specs.Silhouette.{Walked, WalkAnswer, Done, NoRoom}
-use Rattle.epa_polytope.specs.Steps.{End, answers, nothing, panics, noRoom, Found, Lost, keyAtStart, noneHolds, noSilhouette, allDeleted, keyLater, Out, onward, ended, Act, Nil, _>>=_, _>>_}
-use Rattle.epa_polytope.specs.Steps.{Numbers, pure, look, put, pushVertex, pushFace, enqueue, queueFace, answerOf, answer}
+use Rattle.epa_polytope.specs.Steps.{End, answers, nothing, panics, noRoom, Found, Lost, keyAtStart, noneHolds, noSilhouette, allDeleted, keyLater, Out, onward, ended, Nil}
+use Rattle.epa_polytope.specs.Steps.{Numbers, pushVertex, pushFace, enqueue, queueFace, answerOf, answer}
 use Rattle.epa_polytope.specs.Start.{World, formatOf, VoronoiSimplex, pushPoints, firstFar, second, bootstrap, startVertices, distTol, exchange, fourFaces, queueStart, queueFour, startFour, third}
 use Rattle.epa_polytope.specs.Start.{twoFaces, startTwo, startFaces, begin}
 use Rattle.epa_polytope.specs.Expansion.{Expansion, delete, passed, silhouette, link, queueNew, grow, growAll, clearEdges, closeRing, regrow}
@@ -29,7 +29,8 @@ use Rattle.epa_polytope.specs.Distances.{along, Every, keyOf, keysOfEdge
 use Rattle.epa_polytope.proofs.Moves.{withEntry, passFrom}
 use Rattle.epa_polytope.proofs.Tolerance.{tolerance-above-zero}
 use Rattle.epa_polytope.proofs.Stages.{expansion-by-pass, edge-by-pushes}
-use Rattle.epa_polytope.proofs.Steps.{Meets, goes, ends, meets-bind, meets-then, meets-look, meets-pure, meets-put, meets-ok, meets-stop, meets-stopIf, meets-doIf, meets-branch, meets-link, meets-face, meets-enqueue, meets-vertex, meets-map}
+use Rattle.epa_polytope.proofs.Steps.{Meets, goes, ends, meets-bind, meets-then, meets-look, meets-pure, meets-put, meets-ok, meets-stop, meets-stopIf, meets-doIf, meets-branch}
+use Rattle.epa_polytope.proofs.Steps.{meets-link, meets-face, meets-enqueue, meets-vertex}
 
 -- ---- the end that never comes
 

@@ -42,4 +42,5 @@ pub mod Popping
 pub mod Looping
 pub mod DistancesWalks
 pub mod DistancesPops
+pub mod DistancesRuns
 pub mod Distances

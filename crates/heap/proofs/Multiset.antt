@@ -1,7 +1,7 @@
--- THE KEYS HELD, AS A MULTISET: whatever test a key is put to, a push adds just the key pushed to those that pass (`pushed-passing`), and a pop takes just the first key away (`popped-passing`). So each
--- key stays until it is popped, and is popped once. Of any heap with a place for each entry, any keys, NaN or not. Assumes nothing.
+-- THE KEYS HELD, AS A MULTISET: whatever test a key is put to, a push adds just the key pushed to those that pass (`pushed-passing`), and a pop takes just the first key away
+-- (`popped-passing`). So each key stays until it is popped, and is popped once. Of any heap with a place for each entry, any keys, NaN or not. Assumes nothing.
 use mathlib.Core.Path.{_≡_, refl, sym, _∙_}
-use mathlib.Core.Bool.{Bool, true, false, true≢false}
+use mathlib.Core.Bool.{Bool, true, false}
 use mathlib.Core.List.{List}
 use Prim.Native.Nat.{ℕ, zero, suc, _+_, _<_, _≤_}
 use native.Mathlib.Omega.{arith}
@@ -11,7 +11,6 @@ use lib.Seq.{getD-set-same, getD-set-other}
 use lib.Ieee.{Float, nan, isNan}
 use Rattle.heap.specs.Heap.{Heap, Entry, entryAt, put, withCount, noEntry, swap, rise, pushed, cleared, settled, popped}
 use Rattle.heap.specs.Ordered.{keyAt, Held, NotNan, oneIf, passing}
-use Rattle.heap.proofs.Steps.{swap-count}
 use Rattle.heap.proofs.Moves.{rise-holds, settled-holds}
 use Rattle.heap.proofs.Places.{pushed-kept}
 

@@ -1,8 +1,8 @@
--- WITH NO NaN KEY A HEAP STAYS IN ORDER: after a push (`pushed-ordered`) and after a pop (`popped-ordered`) no parent is less than its child, so the key that a pop takes out is the greatest that the
--- heap holds (`first-greatest`). What holds of every key held, and of the one pushed, holds of every key held after a push (`pushed-held`) and after a pop (`popped-held`), NaN or not: no key comes
--- from elsewhere. Of any heap, any keys and any format; the steps are on keys as a function of their place, so that they read nothing else of an entry. Assumes nothing.
--- How it goes: while an entry rises, the keys are in order but for it, and its children are at most its parent (`Rising`); while it sinks, they are in order but for it and its children, and these are at
--- most its parent (`Sinking`). At the bottom there are no children, so that it can rise from there.
+-- WITH NO NaN KEY A HEAP STAYS IN ORDER: after a push (`pushed-ordered`) and after a pop (`popped-ordered`) no parent is less than its child, so the key that a pop takes out is the greatest
+-- that the heap holds (`first-greatest`). What holds of every key held, and of the one pushed, holds of every key held after a push (`pushed-held`) and after a pop (`popped-held`), NaN or
+-- not: no key comes from elsewhere. Of any heap and any keys; the steps are on keys as a function of their place, so that they read nothing else of an entry. Assumes nothing.
+-- How it goes: while an entry rises, the keys are in order but for it, and its children are at most its parent (`Rising`). While it sinks, they are in order but for it and its children, and
+-- these are at most its parent (`Sinking`). At the bottom there are no children, so that it can rise from there.
 use mathlib.Core.Path.{_≡_, refl, sym, ap, _∙_}
 use mathlib.Core.Bool.{Bool, true, false, cond, true≢false}
 use mathlib.Core.List.{List, [], _∷_}
@@ -13,7 +13,7 @@ use lib.ListN.{length, getD, set, length-set, List·getD-eq-default}
 use lib.Seq.{getD-set-same, getD-set-other}
 use lib.Dec.{ltb}
 use lib.Ieee.{Float, nan, lt, isNan}
-use borrow.Author.Tests.{ltb-true, ltb-false, leb-true, leb-false}
+use borrow.Author.Tests.{ltb-true, ltb-false}
 use Rattle.number.proofs.Order.{lt-asym, lt-irrefl, not-less-trans}
 use Rattle.heap.specs.Heap.{Heap, Entry, entryAt, put, withCount, noEntry, swap, less, riseIn, rise, Placed, placed, greater, sinkIn, sink, pushed, cleared, settled, popped}
 use Rattle.heap.specs.Ordered.{keyAt, Held, NotNan, AtMost, Ordered}

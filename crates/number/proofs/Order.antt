@@ -1,13 +1,13 @@
--- `lt` on the floats that are not NaN is a strict weak order: asymmetric (`lt-asym`), transitive (`lt-trans`), and two that neither is less of are alike (`alike-trans`). Infinities and both
--- zeros count, and a value need not fit a format, so it is one law for every format. What a heap needs is `not-less-trans`: 'is not less' is transitive through a float that is not NaN. Then
--- `le` is total there (`le-of-not-less`), and the sign turns the order round (`lt-neg`). Assumes nothing.
+-- `lt` ON THE FLOATS THAT ARE NOT NaN IS A STRICT WEAK ORDER: asymmetric (`lt-asym`), transitive (`lt-trans`), and being alike, where neither is less, is transitive too (`alike-trans`).
+-- Infinities and both zeros count, and a value need not fit a format, so it is one law for every format. What an order of keys needs is `not-less-trans`: 'is not less' is transitive through
+-- a float that is not NaN. There `le` is total (`le-of-not-less`), and a sign turns the order round (`lt-neg`, `lt-neg-neg`). Assumes nothing.
 use mathlib.Core.Path.{_≡_, refl, sym, _∙_}
 use mathlib.Core.Bool.{Bool, true, false, not, _&&_, _||_, true≢false}
 use Prim.Native.Nat.{ℕ, zero, suc, _+_, _*_, _<_, _≤_}
-use native.Mathlib.Nat.{le-trans, le-of-eq, mul-comm, mul-assoc, mul-left-comm, mul-right-comm, mul-le-mul-right, le-of-mul-le-mul-right, mul-pos}
+use native.Mathlib.Nat.{le-trans, le-of-eq, mul-right-comm, mul-le-mul-right, le-of-mul-le-mul-right, mul-pos}
 use native.Mathlib.Omega.{arith}
 use lib.Dec.{ltb, eqb}
-use borrow.Author.Tests.{ltb-true, ltb-false, lt-ltb, le-ltb, eq-eqb, eqb-false}
+use borrow.Author.Tests.{ltb-true, ltb-false, le-ltb, eqb-false}
 use lib.Ieee.{Float, nan, inf, fin, up, down, below, level, lt, le, eq, neg, isNan}
 use lib.Ieee.Fits.{down-pos}
 

@@ -1,6 +1,7 @@
--- EACH LIVE VERTEX AFTER A REDUCTION IS A COPY OF ONE THAT WAS LIVE BEFORE IT, from distinct places, AND THE DIMENSION DID NOT GROW: of any simplex and any location that it has (`taken-copies`), so of
--- any that was found for it, and of the whole reduction (`reduced-copies`). What is refused is left as it came in (`refused-copies`). The places are those of specs/Kept.antt. Assumes nothing.
-use mathlib.Core.Path.{_≡_, refl, sym, ap, subst, _∙_}
+-- EACH LIVE VERTEX AFTER A REDUCTION IS A COPY OF ONE THAT WAS LIVE BEFORE IT, from distinct places, AND THE DIMENSION DID NOT GROW: of any simplex and any location that is taken
+-- (`taken-copies`), and of the whole reduction, whatever it finds (`reduced-copies`). What is refused is left as it came in (`refused-copies`). The places are those of specs/Kept.antt. Assumes
+-- nothing.
+use mathlib.Core.Path.{_≡_, refl, sym, ap, _∙_}
 use mathlib.Core.Bool.{Bool, true, false, cond, _||_}
 use mathlib.Core.List.{List, [], _∷_}
 use mathlib.Core.Logic.{_≢_}
@@ -21,7 +22,8 @@ use Rattle.reduction.specs.declared.location.Location.the-variants.{OnVe
 use Rattle.reduction.specs.declared.location.Projected.{Projected}
 use Rattle.reduction.specs.declared.location.Projected.the-variants.{At, Refused}
 use Rattle.reduction.specs.declared.applying.Application.the-variants.{Taken, NoSuchLocation, Refused as NoSimplex}
-use Rattle.reduction.specs.Reduction.{projectOrigin, overwriteIn, placeIn, toFirst, toVertex, toEdge, reduceSegment, triangleEdge, reduceTriangle, edgeFirst, tetrahedronEdge, tetrahedronFace, reduceTetrahedron, reduceTo}
+use Rattle.reduction.specs.Reduction.{projectOrigin, overwriteIn, placeIn, toFirst, toVertex, toEdge, reduceSegment, triangleEdge, reduceTriangle}
+use Rattle.reduction.specs.Reduction.{edgeFirst, tetrahedronEdge, tetrahedronFace, reduceTetrahedron, reduceTo}
 use Rattle.reduction.specs.Reduction.{hasLocation, appliedWith, applyLocation, reducedAt, projectOriginAndReduce}
 use Rattle.reduction.specs.Kept.{Copied, keptOfSegment, keptOfTriangle, keptOfTetrahedron, keptPlaces, among}
 use Rattle.reduction.proofs.Fits.{found-has}
