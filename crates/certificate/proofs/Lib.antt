@@ -1,0 +1,6 @@
+-- Laws of the checker.
+pub mod Tests
+pub mod Order
+pub mod Sizes
+pub mod Places
+pub mod Answers

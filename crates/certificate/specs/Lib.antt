@@ -1,0 +1,3 @@
+-- What the contracts of this crate cite; `Parts` is for private functions.
+pub mod Certificate
+pub mod Parts
