@@ -4,3 +4,6 @@ pub mod Order
 pub mod Sizes
 pub mod Places
 pub mod Answers
+pub mod Whole
+pub mod Gaps
+pub mod Apart

@@ -1,15 +1,15 @@
 -- The order of whole numbers, as tests, and what it says of the corners above a number. Assumes nothing.
-use Prim.Native.Nat.{ℕ, suc}
 use mathlib.Core.Path.{_≡_, refl, sym}
 use mathlib.Core.Bool.{Bool, true, false, _&&_, true≢false, false≢true}
-use mathlib.Core.List.{List, [], _∷_}
+use mathlib.Core.List.{List}
+use mathlib.Core.Logic.{_⊎_, inl, inr}
 use native.Mathlib.Omega.{arith}
 use borrow.Author.Tests.{ltb-true, ltb-false, lt-ltb}
 use lib.IntN.{ℤ, pos, negsuc}
-use lib.Signed.{ltZ}
+use lib.Signed.{ltZ, _≤ℤ_, ltZ-yes, clashℤ}
 use Rattle.certificate.specs.declared.GridVector.{GridVector}
 use Rattle.certificate.specs.Certificate.{every, above, product}
-use Rattle.certificate.proofs.Tests.{implied, every-implied}
+use Rattle.certificate.proofs.Tests.{implied, every-implied, known, T-of}
 
 -- a < b < c
 lt-trans : (a b c : ℤ) → ltZ a b ≡ true → ltZ b c ≡ true → ltZ a c ≡ true
@@ -29,6 +29,13 @@ not-lt (pos a) (negsuc b) (pos c) h k = refl
 not-lt (negsuc a) (pos b) c h k = absurd (true≢false h)
 not-lt (negsuc a) (negsuc b) (pos c) h k = refl
 not-lt (negsuc a) (negsuc b) (negsuc c) h k = lt-ltb c b (omega (arith, ltb-false b a h, ltb-true c a k))
+
+pub not-less : (a b : ℤ) → b ≤ℤ a → ltZ a b ≡ false
+not-less a b h = by (known (ltZ a b))
+  where
+    by : (ltZ a b ≡ true) ⊎ (ltZ a b ≡ false) → ltZ a b ≡ false
+    by (inl e) = clashℤ (ltZ-yes (T-of e)) h
+    by (inr e) = e
 
 -- of two numbers the greater decides
 module _ (d : GridVector) (top p : ℤ) (second : List GridVector) where

@@ -1,8 +1,9 @@
 -- Laws of the tests that the checker makes: of two at once, and of every element of a list. Assumes nothing.
 use mathlib.Core.Path.{_≡_, refl, sym, ap, _∙_}
 use mathlib.Core.Logic.{_⊎_, inl, inr}
-use mathlib.Core.Bool.{Bool, true, false, _&&_, false≢true}
+use mathlib.Core.Bool.{Bool, true, false, not, _&&_, false≢true}
 use mathlib.Core.List.{List, [], _∷_, List·Memᴰ, List·Memᴰ·head, List·Memᴰ·tail}
+use lib.Dec.{T}
 use Rattle.certificate.specs.Certificate.{every}
 
 pub split : (p q : Bool) → p && q ≡ true → (p ≡ true) × (q ≡ true)
@@ -21,6 +22,16 @@ pub known : (b : Bool) → (b ≡ true) ⊎ (b ≡ false)
 known true = inl refl
 known false = inr refl
 
+pub T-of : {b : Bool} → b ≡ true → T b
+T-of e = rw e tt
+
+pub of-T : (b : Bool) → T b → b ≡ true
+of-T true h = refl
+of-T false h = absurd h
+
+pub T-not-of : (b : Bool) → b ≡ false → T (not b)
+T-not-of b e = rw e tt
+
 -- a test that another implies adds nothing to it
 pub implied : (p q : Bool) → (q ≡ true → p ≡ true) → p && q ≡ q
 implied true q f = refl
@@ -38,6 +49,11 @@ module _ {A : Type 0} (t : A → Bool) where
   unfolding every
   each (y ∷ l) h (List·Memᴰ·head e) = ap t e ∙ split (t y) (every t l) h .0
   each (y ∷ l) h (List·Memᴰ·tail m) = each l (split (t y) (every t l) h .1) m
+
+  pub every-of : (l : List A) → ((x : A) → List·Memᴰ x l → t x ≡ true) → every t l ≡ true
+  unfolding every
+  every-of [] f = refl
+  every-of (y ∷ l) f = join (f y (List·Memᴰ·head refl)) (every-of l (λ x m. f x (List·Memᴰ·tail m)))
 
   -- and where not every one passes, some does not
   pub record Failing (l : List A) : Type 0 where

@@ -1,6 +1,7 @@
 -- The checker answers what its definition says, with its number: the same tests in the same order; for the products it is enough to ask whether every corner of the second hull is above the greatest of the first. Assumes nothing.
 use mathlib.Core.Path.{_≡_, ap, sym, _∙_}
-use mathlib.Core.Bool.{Bool, true, false, _&&_}
+use mathlib.Core.Bool.{Bool, true, _&&_}
+use mathlib.Core.List.{List}
 use borrow.Author.Tests.{not-true, not-false}
 use lib.IntN.{ℤ}
 use lib.ListN.{length}
@@ -18,21 +19,38 @@ both : {x y : Certificate} → x ≡ y → (x ≡ y) × (certificateNumber x ≡
 both e = (e, ap certificateNumber e)
 
 -- ---- what the calls tell of the lengths, of the ranges and of the products
-lengths : (c : tie.After-is-hull2) → c .before .is-hull .result && c .is-hull2 .result ≡ isHull (length (c .before .before .args .first .now)) && isHull (length (c .before .before .args .second .now))
+module _ (g : tie.Start) where
+  -- the hulls as they were lent, and their tests
+  abbrev hull1 : List ℤ
+  hull1 = g .args .first .now
+
+  abbrev hull2 : List ℤ
+  hull2 = g .args .second .now
+
+  abbrev lengthsTest : Bool
+  lengthsTest = isHull (length hull1) && isHull (length hull2)
+
+  abbrev rangesTest : Bool
+  rangesTest = every onGrid hull1 && every onGrid hull2 && vectorOnGrid (g .args .direction)
+
+  abbrev apartTest : Bool
+  apartTest = separated (g .args .direction) (corners hull1) (corners hull2)
+
+lengths : (c : tie.After-is-hull2) → c .before .is-hull .result && c .is-hull2 .result ≡ lengthsTest (c .before .before)
 lengths c = rw (← c .before .is-hull .ensures, ← c .is-hull2 .ensures)
 
-lengths-hold : (c : tie.Else1) → isHull (length (c .before .before .before .args .first .now)) && isHull (length (c .before .before .before .args .second .now)) ≡ true
+lengths-hold : (c : tie.Else1) → lengthsTest (c .before .before .before) ≡ true
 lengths-hold c = sym (lengths (c .before)) ∙ not-false (c .before .before .is-hull .result && c .before .is-hull2 .result) (c .if1 .left)
 
-ranges : (c : tie.After-vector-on-grid) → c .before .before .every-on-grid .result && c .before .every-on-grid2 .result && c .vector-on-grid .result ≡ every onGrid (c .before .before .before .before .before .before .args .first .now) && every onGrid (c .before .before .before .before .before .before .args .second .now) && vectorOnGrid (c .before .before .before .before .before .before .args .direction)
+ranges : (c : tie.After-vector-on-grid) → c .before .before .every-on-grid .result && c .before .every-on-grid2 .result && c .vector-on-grid .result ≡ rangesTest (c .before .before .before .before .before .before)
 ranges c = rw (← c .before .before .every-on-grid .ensures, ← c .before .every-on-grid2 .ensures, ← c .vector-on-grid .ensures)
 
-ranges-hold : (c : tie.Else2) → every onGrid (c .before .before .before .before .before .before .before .args .first .now) && every onGrid (c .before .before .before .before .before .before .before .args .second .now) && vectorOnGrid (c .before .before .before .before .before .before .before .args .direction) ≡ true
+ranges-hold : (c : tie.Else2) → rangesTest (c .before .before .before .before .before .before .before) ≡ true
 ranges-hold c =
     sym (ranges (c .before))
     ∙ not-false (c .before .before .before .every-on-grid .result && c .before .before .every-on-grid2 .result && c .before .vector-on-grid .result) (c .if2 .left)
 
-products : (c : tie.After-every-above) → c .every-above .result ≡ separated (c .before .before .before .before .before .before .before .before .before .args .direction) (corners (c .before .before .before .before .before .before .before .before .before .args .first .now)) (corners (c .before .before .before .before .before .before .before .before .before .args .second .now))
+products : (c : tie.After-every-above) → c .every-above .result ≡ apartTest (c .before .before .before .before .before .before .before .before .before)
 unfolding Bounds
 products c =
     let start = c .before .before .before .before .before .before .before .before .before in

@@ -1,6 +1,6 @@
 -- The product of two vectors on the grid: each part is at most 2^40, so that the sums fit. Assumes nothing.
 use mathlib.Core.Path.{_≡_}
-use lib.IntN.{_+ℤ_, _*ℤ_}
+use lib.IntN.{_*ℤ_}
 use mir.Facts.{toZ-ofZ}
 use Rattle.certificate.specs.Certificate.{product}
 use Rattle.certificate.proofs.Sizes.{Fitting, back-32, on-grid-fits}
@@ -9,32 +9,34 @@ use Rattle.certificate.proofs.product.Tie as tie
 
 add-result : tie.Need-add-result
 add-result c =
-    let start = c .before .before .before .before .before .before in
-    let d = start .args .d in
-    let e = start .args .c in
+    let begin = c .before .before .before .before .before .before in
+    let d = begin .args .d in
+    let e = begin .args .c in
     let d-told = c .before .before .struct-told3 .given in
     let e-told = c .before .struct-told4 .given in
-    let fit = on-grid-fits d e (start .pre .0) (start .pre .1) in
+    let fit = on-grid-fits d e (begin .pre .0) (begin .pre .1) in
     let first : c .before .before .before .times .result ≡ d .x *ℤ e .x = simp (back-32 (d .x) (d-told .0 .1), back-32 (e .x) (e-told .0 .1)) at (c .before .before .before .times .ensures) in
     let second : c .times2 .result ≡ d .y *ℤ e .y = simp (back-32 (d .y) (d-told .1 .0 .1), back-32 (e .y) (e-told .1 .0 .1)) at (c .times2 .ensures) in
     simp (first, second, toZ-ofZ (fit .first), toZ-ofZ (fit .second)) (fit .two)
 
 -- the three products, as the last call leaves them
+abbrev start : tie.After-times3 → tie.Start
+start c = c .before .before .before .before .before .before .before .before .before
+
 record Parts (c : tie.After-times3) : Type 0 where
-  fit : Fitting (c .before .before .before .before .before .before .before .before .before .args .d) (c .before .before .before .before .before .before .before .before .before .args .c)
-  first : c .before .before .before .before .before .before .times .result ≡ c .before .before .before .before .before .before .before .before .before .args .d .x *ℤ c .before .before .before .before .before .before .before .before .before .args .c .x
-  second : c .before .before .before .times2 .result ≡ c .before .before .before .before .before .before .before .before .before .args .d .y *ℤ c .before .before .before .before .before .before .before .before .before .args .c .y
-  third : c .times3 .result ≡ c .before .before .before .before .before .before .before .before .before .args .d .z *ℤ c .before .before .before .before .before .before .before .before .before .args .c .z
+  fit : Fitting (start c .args .d) (start c .args .c)
+  first : c .before .before .before .before .before .before .times .result ≡ start c .args .d .x *ℤ start c .args .c .x
+  second : c .before .before .before .times2 .result ≡ start c .args .d .y *ℤ start c .args .c .y
+  third : c .times3 .result ≡ start c .args .d .z *ℤ start c .args .c .z
 
 parts : (c : tie.After-times3) → Parts c
 parts c =
-    let start = c .before .before .before .before .before .before .before .before .before in
-    let d = start .args .d in
-    let e = start .args .c in
+    let d = start c .args .d in
+    let e = start c .args .c in
     let d-told = c .before .before .struct-told5 .given in
     let e-told = c .before .struct-told6 .given in
     record {
-      fit = on-grid-fits d e (start .pre .0) (start .pre .1);
+      fit = on-grid-fits d e (start c .pre .0) (start c .pre .1);
       first = simp (back-32 (d .x) (d-told .0 .1), back-32 (e .x) (e-told .0 .1)) at (c .before .before .before .before .before .before .times .ensures);
       second = simp (back-32 (d .y) (d-told .1 .0 .1), back-32 (e .y) (e-told .1 .0 .1)) at (c .before .before .before .times2 .ensures);
       third = simp (back-32 (d .z) (d-told .1 .1 .0 .1), back-32 (e .z) (e-told .1 .1 .0 .1)) at (c .times3 .ensures);
