@@ -67,6 +67,12 @@ grid-size : (n : ℤ) → onGrid n ≡ true → natAbs n ≤ 1_048_576
 unfolding onGrid
 grid-size n h = leb-true (natAbs n) 1_048_576 h
 
+pub grid-fits : (n : ℤ) → onGrid n ≡ true → SFits w32 n
+grid-fits n h =
+    let k : natAbs n ≤ 1_048_576 = grid-size n h in
+    let m : mag n ≤ natAbs n = mag-below n in
+    record { sfits = omega arith }
+
 grid-product : (a b : ℤ) → onGrid a ≡ true → onGrid b ≡ true → natAbs (a *ℤ b) ≤ 2 ^ 40
 grid-product a b f g =
     let e : natAbs (a *ℤ b) ≡ natAbs a * natAbs b = size-of-product a b in

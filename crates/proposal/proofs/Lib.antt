@@ -1,0 +1,2 @@
+-- Laws of the proposer.
+pub mod Kept
