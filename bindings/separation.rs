@@ -1,5 +1,5 @@
-//! The separation channel, the vote and the cast in Rust, over libembedding.a (`rt staticlib embedding`). Nothing is allocated
-//! and nothing kept. The contracts are in crates/embedding; include/separation.h says what each field holds.
+//! The separation channel, the vote, the cast and the checker of a separating direction in Rust, over libembedding.a
+//! (`rt staticlib embedding`). Nothing is allocated and nothing kept. The contracts are in crates/embedding; include/separation.h says what each field holds.
 
 #[repr(C)]
 #[derive(Copy, Clone, Debug, Default, PartialEq)]
@@ -80,6 +80,26 @@ pub struct Impact {
     pub dir: Vector,
 }
 
+/// A corner or a direction on the cell's grid: whole numbers from -1,048,576 to 1,048,576.
+#[repr(C)]
+#[derive(Copy, Clone, Debug, Default, PartialEq, Eq)]
+pub struct GridVector {
+    pub x: i32,
+    pub y: i32,
+    pub z: i32,
+}
+
+#[derive(Copy, Clone, Debug, PartialEq, Eq)]
+pub enum Certificate {
+    Accepted,
+    /// Refusal 9: a hull has not 1 to 64 corners.
+    BadLength,
+    /// Refusal 10: a number of a hull or of the direction is none of the grid.
+    OutOfRange,
+    /// Refusal 11: two corners are not strictly apart along the direction.
+    NotSeparated,
+}
+
 /// The stores that a run borrows: nine numbers a vertex; of a face six numbers in `ids`, six in `floats` and its deletion
 /// mark; one record an edge; two slices for the heap. A store of several slices is as long as the fewest whole records that one holds.
 pub struct Stores<'a> {
@@ -139,6 +159,14 @@ unsafe extern "C" {
     ) -> Answer;
     safe fn separation_vote(a: Answer, b: Answer, c: Answer) -> Voted;
     safe fn separation_cast(pos12: Pose, g1: ShapeRecord, g2: ShapeRecord, ray: Ray, max_time: f32) -> Impact;
+    fn separation_certify(
+        first: *const i32,
+        first_length: usize,
+        second: *const i32,
+        second_length: usize,
+        direction: GridVector,
+    ) -> u32;
+    safe fn separation_propose(dir: Vector) -> GridVector;
 }
 
 /// How far `g2`, in the pose `pos12` in the frame of `g1`, is from `g1`, or how deep they meet.
@@ -180,4 +208,22 @@ pub fn vote(a: Answer, b: Answer, c: Answer) -> Voted {
 /// along its direction, no longer than `max_time`.
 pub fn cast(pos12: Pose, g1: Shape, g2: Shape, ray: Ray, max_time: f32) -> Impact {
     separation_cast(pos12, g1.into(), g2.into(), ray, max_time)
+}
+
+/// Whether every corner of the first hull has a strictly smaller product with the direction than every corner of the second:
+/// then no point is in both. A hull is its corners one after the other, three numbers each.
+pub fn certify(first: &[i32], second: &[i32], direction: GridVector) -> Certificate {
+    // SAFETY: the slices are lent for the call, each with its own length; they are only read, and kept by nobody.
+    let number = unsafe { separation_certify(first.as_ptr(), first.len(), second.as_ptr(), second.len(), direction) };
+    match number {
+        0 => Certificate::Accepted,
+        9 => Certificate::BadLength,
+        10 => Certificate::OutOfRange,
+        _ => Certificate::NotSeparated,
+    }
+}
+
+/// A direction in floats, such as the normal of an answer, as one to certify. Any floats are taken; a bad proposal is merely declined.
+pub fn propose(dir: Vector) -> GridVector {
+    separation_propose(dir)
 }

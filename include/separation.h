@@ -1,4 +1,4 @@
-/* The separation channel, the vote and the cast, from libembedding.a (rt staticlib embedding).
+/* The separation channel, the vote, the cast and the checker of a separating direction, from libembedding.a (rt staticlib embedding).
  *
  * A call allocates nothing and keeps nothing: it works on what it is lent. Every call ends, on any numbers and
  * any lengths. Its contract is in crates/embedding. */
@@ -111,5 +111,29 @@ typedef struct {
 separation_impact separation_cast(
     separation_pose pos12, separation_shape g1, separation_shape g2,
     separation_ray ray, float max_time);
+
+/* A corner or a direction on the cell's grid: whole numbers from -1,048,576 to 1,048,576. */
+typedef struct {
+    int32_t x, y, z;
+} separation_grid_vector;
+
+enum separation_certificate {
+    SEPARATION_ACCEPTED = 0,
+    SEPARATION_BAD_LENGTH = 9,     /* a hull has not 1 to 64 corners */
+    SEPARATION_OUT_OF_RANGE = 10,  /* a number of a hull or of the direction is none of the grid */
+    SEPARATION_NOT_SEPARATED = 11, /* two corners are not strictly apart along the direction */
+};
+
+/* Whether every corner of the first hull has a strictly smaller product with the direction than every corner of the second:
+ * then no point is in both hulls. A hull is its corners one after the other, three numbers each; the lengths count numbers.
+ * Exact, and nothing is written. */
+uint32_t separation_certify(
+    const int32_t *first, size_t first_length,
+    const int32_t *second, size_t second_length,
+    separation_grid_vector direction);
+
+/* A direction in floats, such as the normal of an answer, as one to certify: its largest number becomes an end of the grid.
+ * Any floats are taken. A bad proposal is merely declined. */
+separation_grid_vector separation_propose(separation_vector dir);
 
 #endif

@@ -1,5 +1,5 @@
-// The channel, the vote and the cast (impact.rt) under C names, for a caller in another language (include/separation.h). Each is lent what it needs: nothing is
-// allocated and nothing kept. Stores of any lengths are taken; a kind of shape above 3 is answered as malformed.
+// The channel, the vote, the cast (impact.rt) and the checker of a separating direction (certify.rt) under C names, for a caller in another language
+// (include/separation.h). Each is lent what it needs: nothing is allocated and nothing kept. Stores of any lengths are taken; a kind of shape above 3 is answered as malformed.
 ghost use mathlib.Core.Path.{_≡_};
 ghost use lib.Ieee.{binary32};
 ghost use Rattle.vote.specs.Vote.{voteOf};
@@ -9,6 +9,7 @@ ghost use Rattle.epa_lent.specs.Lent.{either, rowLent, recordsLent, onFirst};
 ghost use Rattle.answers.specs.Answers.{shapeOf, votedOf};
 ghost use Rattle.embedding.specs.Embedding.{ran};
 
+mod certify;
 mod impact;
 
 use answers::MaybeShape;
