@@ -81,6 +81,14 @@ tests false ranges apart = record {
   accepted-only-then = λ e. absurd (no 9 0 (ap certificateNumber e) refl);
 }
 
+-- the number 0 is acceptance
+pub accepted-number : (c : Certificate) → certificateNumber c ≡ 0 → c ≡ Accepted
+unfolding certificateNumber
+accepted-number Accepted e = refl
+accepted-number BadLength e = absurd (no 9 0 e refl)
+accepted-number OutOfRange e = absurd (no 10 0 e refl)
+accepted-number NotSeparated e = absurd (no 11 0 e refl)
+
 -- ---- the tests in words
 corners-in : (n : ℕ) → isHull n ≡ true → CornersIn n
 unfolding isHull

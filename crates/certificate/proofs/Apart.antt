@@ -10,10 +10,10 @@ use lib.ListN.{length}
 use lib.Signed.{ltZ}
 use Rattle.certificate.specs.declared.GridVector.{GridVector}
 use Rattle.certificate.specs.declared.Certificate.the-variants.{Accepted}
-use Rattle.certificate.specs.Certificate.{every, above, product, corners, separated, certify}
+use Rattle.certificate.specs.Certificate.{every, above, product, corners, separated, certify, certificateNumber}
 use Rattle.certificate.specs.Hulls.{total, weighted, HullPoint, SameAlong, SamePoint}
 use Rattle.certificate.proofs.Tests.{each}
-use Rattle.certificate.proofs.Answers.{accepted-only}
+use Rattle.certificate.proofs.Answers.{accepted-only, accepted-number}
 use Rattle.certificate.proofs.Whole.{inner, sum-times, times-sum, exchange}
 use Rattle.certificate.proofs.Gaps.{Gap, lt-gap, gap-zero, gap-as, gap-sum, gap-times, no-gap}
 
@@ -97,3 +97,7 @@ never-both d first second apart p q same =
 -- Acceptance means that no point is in both hulls.
 pub apart : (first second : List ℤ) (d : GridVector) → certify first second d ≡ Accepted → (p : HullPoint (corners first)) (q : HullPoint (corners second)) → SamePoint p q → ⊥
 apart first second d accepted = never-both d (corners first) (corners second) (accepted-only first second d accepted .2)
+
+-- The same of the number that goes over to other languages.
+pub apart-by-number : (first second : List ℤ) (d : GridVector) → certificateNumber (certify first second d) ≡ 0 → (p : HullPoint (corners first)) (q : HullPoint (corners second)) → SamePoint p q → ⊥
+apart-by-number first second d e = apart first second d (accepted-number (certify first second d) e)

@@ -1,5 +1,6 @@
--- The points of a hull, for the theorem on acceptance: a point is given by a non-negative whole weight for each corner, with a positive sum W. Its coordinates are the weighted sums of the corners' divided by W; nothing is divided
--- here, and two points are compared after multiplying each by the other's sum. Definitions only.
+-- The points of a hull, for the theorem on acceptance. A point is given by a non-negative whole weight for each corner, with a positive sum:
+-- its coordinates are the weighted sums of the corners', divided by the sum of the weights. Nothing is divided here: two points are compared
+-- after multiplying each by the other's sum. Definitions only.
 use Prim.Native.Nat.{ℕ, _+_, _<_}
 use mathlib.Core.Path.{_≡_}
 use mathlib.Core.List.{List, [], _∷_}
