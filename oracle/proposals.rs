@@ -1,12 +1,12 @@
 //! How often the direction that the channel answers, proposed to the checker, is accepted: pairs of hulls on the cell's grid, as shapes of the
 //! channel whose corners are whole numbers (segments, triangles, boxes), through the embedding. `tools/proposals` builds and runs it.
 
-#[path = "../bindings/separation.rs"]
-#[allow(dead_code)] // the cast and the vote are for others
-mod separation;
 #[path = "src/random.rs"]
 #[allow(dead_code)] // the other generators use the rest
 mod random;
+#[path = "../bindings/separation.rs"]
+#[allow(dead_code)] // the cast and the vote are for others
+mod separation;
 
 use random::Random;
 use separation::{certify, propose, run, Answer, Certificate, Edge, Pose, Shape, Stores, Vector};
@@ -40,20 +40,58 @@ fn hull(random: &mut Random, kind: Kind, size: usize, place: Corner) -> Hull {
     let (shape, local) = match kind {
         Kind::Segment => {
             let (a, b) = (corner(random, size), corner(random, size));
-            (Shape::Capsule { a: vector(a), b: vector(b), radius: 0.0 }, vec![a, b])
+            (
+                Shape::Capsule {
+                    a: vector(a),
+                    b: vector(b),
+                    radius: 0.0,
+                },
+                vec![a, b],
+            )
         }
         Kind::Triangle => {
-            let (a, b, c) = (corner(random, size), corner(random, size), corner(random, size));
-            (Shape::Triangle { a: vector(a), b: vector(b), c: vector(c) }, vec![a, b, c])
+            let (a, b, c) = (
+                corner(random, size),
+                corner(random, size),
+                corner(random, size),
+            );
+            (
+                Shape::Triangle {
+                    a: vector(a),
+                    b: vector(b),
+                    c: vector(c),
+                },
+                vec![a, b, c],
+            )
         }
         Kind::Box => {
             let half = corner(random, size).map(i32::abs);
-            let ends = |k: usize| [0, 1, 2].map(|axis| if k >> axis & 1 == 0 { half[axis] } else { -half[axis] });
-            (Shape::Cuboid { half_extents: vector(half) }, (0..8).map(ends).collect())
+            let ends = |k: usize| {
+                [0, 1, 2].map(|axis| {
+                    if k >> axis & 1 == 0 {
+                        half[axis]
+                    } else {
+                        -half[axis]
+                    }
+                })
+            };
+            (
+                Shape::Cuboid {
+                    half_extents: vector(half),
+                },
+                (0..8).map(ends).collect(),
+            )
         }
     };
-    let corners = local.iter().flat_map(|c| [0, 1, 2].map(|axis| c[axis] + place[axis])).collect();
-    Hull { shape, place, corners }
+    let corners = local
+        .iter()
+        .flat_map(|c| [0, 1, 2].map(|axis| c[axis] + place[axis]))
+        .collect();
+    Hull {
+        shape,
+        place,
+        corners,
+    }
 }
 
 fn answer(first: &Hull, second: &Hull) -> Answer {
@@ -66,9 +104,24 @@ fn answer(first: &Hull, second: &Hull) -> Answer {
         heap_ids: &mut [0; 1000],
         heap_keys: &mut [0.0; 1000],
     };
-    let pose = Pose { rotation: [0.0, 0.0, 0.0, 1.0], translation: vector(second.place) };
-    let start = Vector { x: 1.0, y: 0.0, z: 0.0 };
-    run(pose, first.shape, second.shape, start, f32::MAX, true, &mut stores)
+    let pose = Pose {
+        rotation: [0.0, 0.0, 0.0, 1.0],
+        translation: vector(second.place),
+    };
+    let start = Vector {
+        x: 1.0,
+        y: 0.0,
+        z: 0.0,
+    };
+    run(
+        pose,
+        first.shape,
+        second.shape,
+        start,
+        f32::MAX,
+        true,
+        &mut stores,
+    )
 }
 
 /// Pairs whose hulls are apart by the channel's answer, and how many proposals of those and of the others are accepted.
@@ -86,7 +139,8 @@ fn count(random: &mut Random, kinds: [Kind; 2], size: usize, pairs: u64) -> Coun
         let place = corner(random, size);
         let second = hull(random, kinds[1], size, place);
         let a = answer(&first, &second);
-        let accepted = certify(&first.corners, &second.corners, propose(a.normal)) == Certificate::Accepted;
+        let accepted =
+            certify(&first.corners, &second.corners, propose(a.normal)) == Certificate::Accepted;
         if a.outcome == 0 {
             counts.apart += 1;
             counts.accepted += u64::from(accepted);
@@ -98,10 +152,20 @@ fn count(random: &mut Random, kinds: [Kind; 2], size: usize, pairs: u64) -> Coun
 }
 
 fn main() {
-    let words: Vec<u64> = std::env::args().skip(1).map(|w| w.parse().expect("a number")).collect();
+    let words: Vec<u64> = std::env::args()
+        .skip(1)
+        .map(|w| w.parse().expect("a number"))
+        .collect();
     let (pairs, seed) = (words[0], words.get(1).copied().unwrap_or(1));
-    let kinds = [("segment", Kind::Segment), ("triangle", Kind::Triangle), ("box", Kind::Box)];
-    println!("{:<20} {:>7} {:>9} {:>9} {:>9} {:>9} {:>16}", "hulls", "size", "pairs", "apart", "accepted", "declined", "others accepted");
+    let kinds = [
+        ("segment", Kind::Segment),
+        ("triangle", Kind::Triangle),
+        ("box", Kind::Box),
+    ];
+    println!(
+        "{:<20} {:>7} {:>9} {:>9} {:>9} {:>9} {:>16}",
+        "hulls", "size", "pairs", "apart", "accepted", "declined", "others accepted"
+    );
     for (i, first) in kinds.iter().enumerate() {
         for second in &kinds[i..] {
             for size in [10, 1_000, 262_144] {
@@ -109,7 +173,10 @@ fn main() {
                 let c = count(&mut random, [first.1, second.1], size, pairs);
                 let name = format!("{}, {}", first.0, second.0);
                 let declined = c.apart - c.accepted;
-                println!("{name:<20} {size:>7} {pairs:>9} {:>9} {:>9} {declined:>9} {:>16}", c.apart, c.accepted, c.others_accepted);
+                println!(
+                    "{name:<20} {size:>7} {pairs:>9} {:>9} {:>9} {declined:>9} {:>16}",
+                    c.apart, c.accepted, c.others_accepted
+                );
             }
         }
     }

@@ -9,7 +9,10 @@ pub struct Case {
 }
 
 fn words(bytes: &[u8]) -> Vec<i32> {
-    bytes.chunks_exact(4).map(|c| i32::from_le_bytes([c[0], c[1], c[2], c[3]])).collect()
+    bytes
+        .chunks_exact(4)
+        .map(|c| i32::from_le_bytes([c[0], c[1], c[2], c[3]]))
+        .collect()
 }
 
 impl Case {
@@ -25,12 +28,21 @@ impl Case {
         input.read_exact(&mut body)?;
         let mut first = words(&body);
         let second = first.split_off(head[0] as usize);
-        Ok(Some(Self { first, second, direction: [head[2], head[3], head[4]] }))
+        Ok(Some(Self {
+            first,
+            second,
+            direction: [head[2], head[3], head[4]],
+        }))
     }
 
     pub fn write(&self, out: &mut impl Write) -> Result<()> {
         let head = [self.first.len() as i32, self.second.len() as i32];
-        for word in head.iter().chain(&self.direction).chain(&self.first).chain(&self.second) {
+        for word in head
+            .iter()
+            .chain(&self.direction)
+            .chain(&self.first)
+            .chain(&self.second)
+        {
             out.write_all(&word.to_le_bytes())?;
         }
         Ok(())

@@ -5,7 +5,9 @@ use crate::case::Case;
 const LIMIT: i32 = 1_048_576;
 
 pub fn product(corner: &[i32], direction: [i32; 3]) -> i128 {
-    (0..3).map(|k| i128::from(corner[k]) * i128::from(direction[k])).sum()
+    (0..3)
+        .map(|k| i128::from(corner[k]) * i128::from(direction[k]))
+        .sum()
 }
 
 pub fn is_hull(numbers: &[i32]) -> bool {
@@ -21,7 +23,13 @@ pub fn answer(case: &Case) -> u8 {
     if !is_hull(&case.first) || !is_hull(&case.second) {
         return 9;
     }
-    if !case.first.iter().chain(&case.second).chain(&case.direction).all(is_in_range) {
+    if !case
+        .first
+        .iter()
+        .chain(&case.second)
+        .chain(&case.direction)
+        .all(is_in_range)
+    {
         return 10;
     }
     for a in case.first.chunks(3) {

@@ -6,9 +6,28 @@ use crate::random::Random;
 const LIMIT: i64 = 1_048_576;
 
 /// Ends of the range and the numbers beside them.
-const EDGES: [i64; 12] =
-    [0, 1, -1, LIMIT, -LIMIT, LIMIT - 1, 1 - LIMIT, LIMIT, -LIMIT, LIMIT, -LIMIT, 2];
-const BEYOND: [i64; 6] = [LIMIT + 1, -LIMIT - 1, i32::MAX as i64, i32::MIN as i64, LIMIT + 2, 1 << 30];
+const EDGES: [i64; 12] = [
+    0,
+    1,
+    -1,
+    LIMIT,
+    -LIMIT,
+    LIMIT - 1,
+    1 - LIMIT,
+    LIMIT,
+    -LIMIT,
+    LIMIT,
+    -LIMIT,
+    2,
+];
+const BEYOND: [i64; 6] = [
+    LIMIT + 1,
+    -LIMIT - 1,
+    i32::MAX as i64,
+    i32::MIN as i64,
+    LIMIT + 2,
+    1 << 30,
+];
 
 /// How large the numbers of a case are.
 #[derive(Copy, Clone)]
@@ -27,7 +46,11 @@ fn number(random: &mut Random, size: Size) -> i64 {
 }
 
 fn vector(random: &mut Random, size: Size) -> [i64; 3] {
-    [number(random, size), number(random, size), number(random, size)]
+    [
+        number(random, size),
+        number(random, size),
+        number(random, size),
+    ]
 }
 
 fn corners(random: &mut Random) -> usize {
@@ -78,7 +101,11 @@ fn placed(random: &mut Random, size: Size, top: [i64; 3], d: [i64; 3], how: usiz
 
 /// In one case of ten something is wrong with the lengths, in one of ten with a number.
 fn spoiled(random: &mut Random, mut case: Case) -> Case {
-    let hull = if random.chance(50) { &mut case.first } else { &mut case.second };
+    let hull = if random.chance(50) {
+        &mut case.first
+    } else {
+        &mut case.second
+    };
     match random.below(40) {
         0 => hull.clear(),
         1 => hull.truncate(1 + random.below(2)),
@@ -106,11 +133,28 @@ pub fn case(random: &mut Random) -> Case {
     let sizes = [Size::Few, Size::Grid, Size::Edges];
     let size = random.pick(&sizes);
     let towards = random.pick(&sizes);
-    let d = if random.chance(2) { [0; 3] } else { vector(random, towards) };
+    let d = if random.chance(2) {
+        [0; 3]
+    } else {
+        vector(random, towards)
+    };
     let first: Vec<_> = (0..corners(random)).map(|_| vector(random, size)).collect();
-    let top = first.iter().copied().max_by_key(|&c| dot(c, d)).expect("a corner");
+    let top = first
+        .iter()
+        .copied()
+        .max_by_key(|&c| dot(c, d))
+        .expect("a corner");
     let how = random.below(5);
-    let second: Vec<_> = (0..corners(random)).map(|_| placed(random, size, top, d, how)).collect();
+    let second: Vec<_> = (0..corners(random))
+        .map(|_| placed(random, size, top, d, how))
+        .collect();
     let direction = d.map(|n| n as i32);
-    spoiled(random, Case { first: flat(&first), second: flat(&second), direction })
+    spoiled(
+        random,
+        Case {
+            first: flat(&first),
+            second: flat(&second),
+            direction,
+        },
+    )
 }

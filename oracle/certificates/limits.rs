@@ -35,7 +35,11 @@ impl Limits {
         let has = |n: usize| hulls.iter().any(|h| h.len() == n);
         let size = |n: u32| numbers().any(|m| m.unsigned_abs() == n);
         let fits = hulls.iter().all(|h| is_hull(h));
-        let gap = if fits && numbers().all(is_in_range) { Some(gap(case)) } else { None };
+        let gap = if fits && numbers().all(is_in_range) {
+            Some(gap(case))
+        } else {
+            None
+        };
         let met = [
             given == 0,
             given == 9,
@@ -61,7 +65,9 @@ impl Limits {
 
 /// The least product of the second less the greatest of the first.
 fn gap(case: &Case) -> i128 {
-    let products = |hull: &[i32]| -> Vec<i128> { hull.chunks(3).map(|c| product(c, case.direction)).collect() };
+    let products = |hull: &[i32]| -> Vec<i128> {
+        hull.chunks(3).map(|c| product(c, case.direction)).collect()
+    };
     let least = products(&case.second).into_iter().min().expect("a corner");
     let greatest = products(&case.first).into_iter().max().expect("a corner");
     least - greatest
@@ -72,6 +78,10 @@ impl fmt::Display for Limits {
         for (name, count) in NAMES.iter().zip(self.met) {
             writeln!(out, "{count:>9} {name}")?;
         }
-        writeln!(out, "{:>9} greatest and least product one apart", self.one_apart)
+        writeln!(
+            out,
+            "{:>9} greatest and least product one apart",
+            self.one_apart
+        )
     }
 }

@@ -1,13 +1,12 @@
 -- The theorem of ticket 12: where the checker accepts, no point is in both hulls (`apart`). Shown of the definition `certify`, for any lists of whole numbers, which the code meets on every input. Assumes nothing.
-use Prim.Native.Nat.{ℕ, zero, suc, _+_, _*_, _≤_, _<_}
+use Prim.Native.Nat.{ℕ, suc, _+_, _*_, _≤_, _<_}
 use mathlib.Core.Path.{_≡_, refl, sym, ap, _∙_}
-use mathlib.Core.Bool.{Bool, true, false}
+use mathlib.Core.Bool.{true}
 use mathlib.Core.List.{List, [], _∷_, List·Memᴰ, List·Memᴰ·head, List·Memᴰ·tail}
 use native.Mathlib.Nat.{mul-le-mul}
 use native.Mathlib.Omega.{arith}
 use lib.IntN.{ℤ, pos, _+ℤ_, _*ℤ_, +ℤ-idr, *ℤ-zero, zero-*ℤ}
 use lib.ListN.{length}
-use lib.Signed.{ltZ}
 use Rattle.certificate.specs.declared.GridVector.{GridVector}
 use Rattle.certificate.specs.declared.Certificate.the-variants.{Accepted}
 use Rattle.certificate.specs.Certificate.{every, above, product, corners, separated, certify, certificateNumber}

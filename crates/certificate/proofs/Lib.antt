@@ -7,3 +7,4 @@ pub mod Answers
 pub mod Whole
 pub mod Gaps
 pub mod Apart
+pub mod Common

@@ -1,7 +1,7 @@
 -- Laws of whole numbers that the kit's own lack: the product distributes over the sum and is associative. Assumes nothing.
-use Prim.Native.Nat.{ℕ, zero, suc}
-use mathlib.Core.Path.{_≡_, refl, sym, ap, _∙_}
-use lib.IntN.{ℤ, pos, negsuc, negℤ, sucℤ, _+ℤ_, _-ℤ_, _*ℤ_, +ℤ-idl, +ℤ-assoc, +ℤ-comm, +ℤ-negℤ-cancel, sucℤ-+ℤ, sucℤ-*ℤ, zero-*ℤ, *ℤ-comm}
+use Prim.Native.Nat.{zero, suc}
+use mathlib.Core.Path.{_≡_, sym, ap, _∙_}
+use lib.IntN.{ℤ, pos, negsuc, sucℤ, _+ℤ_, _-ℤ_, _*ℤ_, +ℤ-idl, +ℤ-assoc, +ℤ-comm, +ℤ-negℤ-cancel, sucℤ-+ℤ, sucℤ-*ℤ, zero-*ℤ, *ℤ-comm}
 
 pub cancel : (a b t : ℤ) → a +ℤ t ≡ b +ℤ t → a ≡ b
 cancel a b t e = sym (+ℤ-negℤ-cancel a t) ∙ ap (λ (x : ℤ). x -ℤ t) e ∙ +ℤ-negℤ-cancel b t

@@ -30,7 +30,7 @@ vectorOnGrid v = onGrid (v .x) && onGrid (v .y) && onGrid (v .z)
 
 -- ---- corners and products
 
--- the corners of a hull: three numbers each
+-- the corners of a hull: three numbers each; one or two that are left over make none
 unfoldable pub corners : List ℤ → List GridVector
 corners (x ∷ y ∷ z ∷ rest) = record { x = x; y = y; z = z } ∷ corners rest
 corners (x ∷ y ∷ []) = []
@@ -48,7 +48,7 @@ above d n c = ltZ n (product d c)
 unfoldable pub separated : GridVector → List GridVector → List GridVector → Bool
 separated d first second = every (λ (c : GridVector). every (above d (product d c)) second) first
 
--- ---- the checker
+-- ---- the checker: lengths first, then ranges, then products
 
 unfoldable pub certify : List ℤ → List ℤ → GridVector → Certificate
 certify first second d =

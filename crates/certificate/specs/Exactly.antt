@@ -1,4 +1,5 @@
--- What the laws on the answers say, in words of the ticket and without tests: right lengths, right ranges, hulls apart along the direction, and a pair of corners that is not. Definitions only.
+-- What the laws on the answers say, in words of the ticket and without tests: right lengths, right ranges, hulls apart along the direction, and a pair of corners that is not.
+-- `List·Memᴰ x l` says that x stands in the list l. Definitions only.
 use Prim.Native.Nat.{ℕ, _*_, _≤_}
 use mathlib.Core.Path.{_≡_}
 use mathlib.Core.List.{List, List·Memᴰ}

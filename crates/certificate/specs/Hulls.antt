@@ -25,9 +25,11 @@ pub record HullPoint (corners : List GridVector) : Type 0 where
   pub one-each : length weights ≡ length corners
   pub positive : 0 < total weights
 
+-- the weighted sum of a number of each corner: of a coordinate, or of the product with a direction
 abbrev pub sumOf : {corners : List GridVector} → (GridVector → ℤ) → HullPoint corners → ℤ
 sumOf {corners} g p = weighted g (p .weights) corners
 
+-- two points agree in such a number
 abbrev pub SameAlong : {first second : List GridVector} → (GridVector → ℤ) → HullPoint first → HullPoint second → Type 0
 SameAlong g p q = pos (total (q .weights)) *ℤ sumOf g p ≡ pos (total (p .weights)) *ℤ sumOf g q
 

@@ -5,7 +5,7 @@ ghost use mathlib.Core.Path.{_≡_};
 ghost use mathlib.Core.Bool.{true};
 ghost use lib.IntN.{_*ℤ_};
 ghost use lib.ListN.{length};
-ghost use Rattle.certificate.specs.Certificate.{every, isHull, onGrid, vectorOnGrid, corners, product, above, separated, certify, certificateNumber};
+ghost use Rattle.certificate.specs.Certificate.{every, isHull, onGrid, vectorOnGrid, corners, product, above, certify, certificateNumber};
 ghost use Rattle.certificate.specs.Parts.{cornerAt, Bounds};
 
 // A corner or a direction, on the cell's grid.
@@ -61,8 +61,9 @@ fn every_on_grid(hull: &[i32]) -> bool
 
 // The corner whose first number has the place i.
 fn corner_at(hull: &[i32], i: usize) -> GridVector
-    requires { ⌜ i + 2 < length (now hull) ⌝ }
-    ensures { λ r. ⌜ r ≡ cornerAt (now (hull .entry)) i ⌝ }
+    requires { ⌜ i + 2 < length (now hull) ⌝ ∗ ⌜ every onGrid (now hull) ≡ true ⌝ }
+    ensures place { λ r. ⌜ r ≡ cornerAt (now (hull .entry)) i ⌝ }
+    ensures range { λ r. ⌜ vectorOnGrid r ≡ true ⌝ }
 {
     GridVector {
         x: hull[i],

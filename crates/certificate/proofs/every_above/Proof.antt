@@ -1,7 +1,6 @@
 -- Each corner of the hull is tested, up to the first that fails. The loop's invariant: what is left to test decides. Assumes nothing.
-use Prim.Native.Nat.{_+_, _-_, _≤_}
+use Prim.Native.Nat.{_-_, _≤_}
 use mathlib.Core.Path.{_≡_, refl, sym, ap, _∙_}
-use mathlib.Core.Bool.{true}
 use native.Mathlib.Omega.{arith}
 use borrow.Author.Needs.{needs}
 use borrow.Author.Tests.{not-true, not-false}
@@ -11,10 +10,10 @@ use lib.Signed.{ltZ}
 use mir.Facts.{toZ-ofZ}
 use mir.Syntax.{w64}
 use mir.Val.{toZ, ofZ}
-use Rattle.certificate.specs.Certificate.{every, above, corners, product, vectorOnGrid}
+use Rattle.certificate.specs.Certificate.{every, above, corners, product}
 use Rattle.certificate.specs.Parts.{cornerAt}
 use Rattle.certificate.proofs.Sizes.{back-64}
-use Rattle.certificate.proofs.Places.{corner-fails, corner-passes, no-corner-left, corner-on-grid}
+use Rattle.certificate.proofs.Places.{corner-fails, corner-passes, no-corner-left}
 use Rattle.certificate.proofs.every_above.Statement.{statement}
 use Rattle.certificate.proofs.every_above.Tie as tie
 
@@ -25,14 +24,12 @@ abbrev μ-loop : tie.MeasureT-loop
 μ-loop d n hull i₀ i = length hull - i
 
 product-requires : tie.Need-product-requires Inv-loop μ-loop
-product-requires c κs =
-    let start = c .before .before .before in
-    (start .pre .0, ap vectorOnGrid (c .corner-at .ensures) ∙ corner-on-grid (start .args .hull .now) (c .before .before .loop .i) (start .pre .1) (c .before .loop-test .taken))
+product-requires c κs = (c .before .before .before .pre .0, c .corner-at .ensures .1)
 
 -- what the two calls tell of the corner at this place
 told : (c : tie.After-product Inv-loop μ-loop) → (n : ℤ) → ltZ n (toZ w64 (ofZ w64 (c .product .result))) ≡ above (c .before .before .before .before .args .d) n (cornerAt (c .before .before .before .before .args .hull .now) (c .before .before .before .loop .i))
 unfolding above
-told c n = ap (ltZ n) (back-64 (c .product .result) (c .product .ok) ∙ c .product .ensures ∙ ap (product (c .before .before .before .before .args .d)) (c .before .corner-at .ensures))
+told c n = ap (ltZ n) (back-64 (c .product .result) (c .product .ok) ∙ c .product .ensures ∙ ap (product (c .before .before .before .before .args .d)) (c .before .corner-at .ensures .0))
 
 returns : tie.Need-returns Inv-loop μ-loop
 returns c =

@@ -1,7 +1,7 @@
 -- The greatest product bounds the first hull: what is above it is above every corner. The loop's invariant: what is above `top`, and above each corner that is left, is above every corner. Assumes nothing.
 use Prim.Native.Nat.{_+_, _-_, _≤_}
-use mathlib.Core.Path.{_≡_, refl, sym, ap, _∙_}
-use mathlib.Core.Bool.{true, false, _&&_, and-true}
+use mathlib.Core.Path.{_≡_, sym, ap, _∙_}
+use mathlib.Core.Bool.{_&&_, and-true}
 use mathlib.Core.List.{List}
 use mathlib.Core.Logic.{⊎-elim}
 use native.Mathlib.Omega.{arith}
@@ -12,10 +12,10 @@ use lib.Signed.{ltZ}
 use mir.Syntax.{w64}
 use mir.Val.{toZ, ofZ}
 use Rattle.certificate.specs.declared.GridVector.{GridVector}
-use Rattle.certificate.specs.Certificate.{every, above, corners, product, separated, vectorOnGrid}
+use Rattle.certificate.specs.Certificate.{every, above, corners, product, separated}
 use Rattle.certificate.specs.Parts.{cornerAt, Bounds}
 use Rattle.certificate.proofs.Sizes.{back-64}
-use Rattle.certificate.proofs.Places.{corner-on-grid, separated-step, separated-end, step-taken, step-left}
+use Rattle.certificate.proofs.Places.{separated-step, separated-end, step-taken, step-left}
 use Rattle.certificate.proofs.greatest.Statement.{statement}
 use Rattle.certificate.proofs.greatest.Tie as tie
 
@@ -28,24 +28,20 @@ abbrev μ-loop : tie.MeasureT-loop
 μ-loop d hull top₀ i₀ top i = length hull - i
 
 product-requires : tie.Need-product-requires Inv-loop μ-loop
-product-requires c κs =
-    let start = c .before in
-    (start .pre .0, ap vectorOnGrid (c .corner-at .ensures) ∙ corner-on-grid (start .args .hull .now) 0 (start .pre .1 .0) (omega arith))
+product-requires c κs = (c .before .pre .0, c .corner-at .ensures .1)
 
 loop-holds : tie.Need-loop-holds Inv-loop μ-loop
 loop-holds c =
     let start = c .before .before in
-    let first : toZ w64 (ofZ w64 (c .product .result)) ≡ product (start .args .d) (cornerAt (start .args .hull .now) 0) = back-64 (c .product .result) (c .product .ok) ∙ c .product .ensures ∙ ap (product (start .args .d)) (c .before .corner-at .ensures) in
+    let first : toZ w64 (ofZ w64 (c .product .result)) ≡ product (start .args .d) (cornerAt (start .args .hull .now) 0) = back-64 (c .product .result) (c .product .ok) ∙ c .product .ensures ∙ ap (product (start .args .d)) (c .before .corner-at .ensures .0) in
     (omega arith, λ second. ap (λ (n : ℤ). every (above (start .args .d) n) second && separated (start .args .d) (corners (drop 3 (start .args .hull .now))) second) first ∙ sym (separated-step (start .args .d) (start .args .hull .now) 0 second (omega arith)))
 
 product-requires-2 : tie.Need-product-requires-2 Inv-loop μ-loop
-product-requires-2 c κs =
-    let start = c .before .before .before .before .before in
-    (start .pre .0, ap vectorOnGrid (c .corner-at2 .ensures) ∙ corner-on-grid (start .args .hull .now) (c .before .before .loop .i) (start .pre .1 .0) (c .before .loop-test .taken))
+product-requires-2 c κs = (c .before .before .before .before .before .pre .0, c .corner-at2 .ensures .1)
 
 -- the product at this place, as the code holds it
 here : (c : tie.After-product2 Inv-loop μ-loop) → toZ w64 (ofZ w64 (c .product2 .result)) ≡ product (c .before .before .before .before .before .before .args .d) (cornerAt (c .before .before .before .before .before .before .args .hull .now) (c .before .before .before .loop .i))
-here c = back-64 (c .product2 .result) (c .product2 .ok) ∙ c .product2 .ensures ∙ ap (product (c .before .before .before .before .before .before .args .d)) (c .before .corner-at2 .ensures)
+here c = back-64 (c .product2 .result) (c .product2 .ok) ∙ c .product2 .ensures ∙ ap (product (c .before .before .before .before .before .before .args .d)) (c .before .corner-at2 .ensures .0)
 
 loop-again : tie.Need-loop-again Inv-loop μ-loop
 loop-again c =

@@ -1,5 +1,4 @@
 -- A number is tested against both ends, which is the definition's test of its size (`range-tested`). Assumes nothing.
-use mathlib.Core.Path.{refl}
 use mir.Facts.{toZ-ofZ}
 use Rattle.certificate.proofs.Sizes.{range-tested}
 use Rattle.certificate.proofs.on_grid.Statement.{statement}

@@ -1,9 +1,8 @@
 -- The product of two numbers of 32 bits fits 64. Assumes nothing.
-use mathlib.Core.Path.{_≡_, _∙_}
-use lib.IntN.{ℤ, _*ℤ_}
+use lib.IntN.{ℤ}
 use mir.Facts.{toZ-ofZ, sfits-widen}
 use mir.Syntax.{w32, w64}
-use mir.Val.{SFits, toZ, ofZ}
+use mir.Val.{SFits}
 use Rattle.certificate.proofs.Sizes.{product-fits}
 use Rattle.certificate.proofs.times.Statement.{statement}
 use Rattle.certificate.proofs.times.Tie as tie

@@ -1,8 +1,7 @@
 -- The whole part is asked for where an `i64` has it, which the two tests say, and is 0 elsewhere. Assumes nothing.
-use mathlib.Core.Path.{_≡_, sym, ap, _∙_, subst}
+use mathlib.Core.Path.{sym, _∙_, subst}
 use lib.Dec.{T}
 use lib.Ieee.{ofBits, neg}
-use mir.Facts.{toZ-ofZ}
 use Rattle.proposal.specs.Proposal.{wholePart}
 use Rattle.certificate.proofs.Sizes.{back-64}
 use Rattle.proposal.proofs.whole_part.Statement.{statement}

@@ -1,6 +1,5 @@
 -- The number of the checker's answer. Assumes nothing.
-use mathlib.Core.Path.{ap, _∙_}
-use Rattle.certificate.specs.Certificate.{certificateNumber}
+use mathlib.Core.Path.{_∙_}
 use Rattle.embedding.proofs.certify.separation_certify.Statement.{statement}
 use Rattle.embedding.proofs.certify.separation_certify.Tie as tie
 
