@@ -64,7 +64,7 @@ fn add_answer(checksum: &mut Checksum, answer: &Answer) {
         checksum.add_float(vector.z);
     }
     let Some(counts) = lines::counts(answer) else { return };
-    for count in [counts.expansions, counts.faces_made, counts.faces_live, counts.most_edges] {
+    for count in [counts.expansions, counts.faces_made, counts.faces_live, counts.most_edges, counts.missed] {
         checksum.add(count as u64);
     }
 }

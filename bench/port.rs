@@ -121,7 +121,7 @@ pub fn add_answer(checksum: &mut Checksum, answer: &Answer) {
     }
     if matches!(letter, b'P' | b'N' | b'R') {
         let counts = answer.counts;
-        for count in [counts.expansions, counts.made, counts.live, counts.edges] {
+        for count in [counts.expansions, counts.made, counts.live, counts.edges, counts.missed] {
             checksum.add(count as u64);
         }
     }

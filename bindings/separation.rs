@@ -25,7 +25,7 @@ pub enum Shape {
     Triangle { a: Vector, b: Vector, c: Vector },
 }
 
-/// Expansions completed, faces made, faces live at the end, most edges in one pass.
+/// Expansions completed, faces made, faces live at the end, most edges in one pass, lookups that missed.
 #[repr(C)]
 #[derive(Copy, Clone, Debug, Default, PartialEq)]
 pub struct Counts {
@@ -33,6 +33,7 @@ pub struct Counts {
     pub made: usize,
     pub live: usize,
     pub edges: usize,
+    pub missed: usize,
 }
 
 /// What a channel answers: `outcome` is the place of its letter in D M S P N X R.

@@ -47,7 +47,8 @@ static void print_answer(int number, separation_answer a)
     if (a.outcome <= SEPARATION_PENETRATION)
         print_vector(a.normal);
     if (a.outcome == SEPARATION_PENETRATION || a.outcome == SEPARATION_NO_ANSWER || a.outcome == SEPARATION_NO_ROOM)
-        printf(" %zu %zu %zu %zu", a.counts.expansions, a.counts.made, a.counts.live, a.counts.edges);
+        printf(" %zu %zu %zu %zu %zu", a.counts.expansions, a.counts.made, a.counts.live, a.counts.edges,
+               a.counts.missed);
     printf("\n");
 }
 

@@ -38,7 +38,7 @@ fn line(number: usize, a: Answer) -> String {
     let normal = if matches!(letter, "D" | "M" | "S" | "P") { hex(a.normal) } else { String::new() };
     let c = a.counts;
     let counts = if matches!(letter, "P" | "N" | "R") {
-        format!(" {} {} {} {}", c.expansions, c.made, c.live, c.edges)
+        format!(" {} {} {} {} {}", c.expansions, c.made, c.live, c.edges, c.missed)
     } else {
         String::new()
     };

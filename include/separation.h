@@ -42,9 +42,10 @@ enum separation_outcome {
     SEPARATION_MALFORMED = 7,       /* refusal 4: a kind of shape above 3; no channel answers it */
 };
 
-/* The counts of a run: expansions completed, faces made, faces live at the end, most edges in one pass. */
+/* The counts of a run: expansions completed, faces made, faces live at the end, most edges in one pass, and
+ * lookups that missed: a face's neighbour that had not got the vertex sought. */
 typedef struct {
-    size_t expansions, made, live, edges;
+    size_t expansions, made, live, edges, missed;
 } separation_counts;
 
 /* What the outcome hasn't got is zero. */

@@ -41,10 +41,11 @@ EDITS = [
         'use num::Bounded;\n\n#[path = "record.rs"]\nmod record;\n',
     ),
     Edit(
-        "a place for the number of expansions completed and for the way out",
+        "a place for the number of expansions completed, of lookups that missed, and for the way out",
         "    heap: BinaryHeap<FaceId>,\n}",
         "    heap: BinaryHeap<FaceId>,\n"
         "    expansions: usize,\n"
+        "    missed: usize,\n"
         "    way_out: crate::query::epa::WayOut,\n"
         "}",
     ),
@@ -59,12 +60,37 @@ EDITS = [
         "        self.heap.restart();\n"
         "        self.silhouette.restart();\n"
         "        self.expansions = 0;\n"
+        "        self.missed = 0;\n"
         "        self.way_out = Default::default();\n",
     ),
     Edit(
         "an expansion completed is counted where the Rust counts it",
         "            niter += 1;\n",
         "            niter += 1;\n            self.expansions += 1;\n",
+    ),
+]
+
+
+def missed(face: str, vertex: str) -> str:
+    return f"self.missed += usize::from(!self.faces[{face}].contains_point({vertex}));\n"
+
+
+# A lookup has missed where the face has not got the vertex: counted after the lookups and before the
+# first neighbour is asked.
+LOOKUPS = [
+    Edit(
+        "the three lookups before a pass that missed are counted",
+        "            self.compute_silhouette(support_point_id, face.adj[0], adj_opp_pt_id1);\n",
+        "".join(f"            {missed(f'face.adj[{k}]', f'face.pts[{k}]')}" for k in range(3))
+        + "            self.compute_silhouette(support_point_id, face.adj[0], adj_opp_pt_id1);\n",
+    ),
+    Edit(
+        "the two lookups of a seen face that missed are counted",
+        "                self.compute_silhouette(point, adj1, adj_opp_pt_id1);\n",
+        "".join(
+            f"                {missed(f'adj{k}', f'self.faces[id].pts[adj_pt_id{k}]')}" for k in (1, 2)
+        )
+        + "                self.compute_silhouette(point, adj1, adj_opp_pt_id1);\n",
     ),
 ]
 
@@ -181,13 +207,13 @@ def apply(text: str, edit: Edit) -> str:
 
 
 def edited(text: str, order: str) -> str:
-    for edit in EDITS + WAYS_OUT + ORDERS[order]:
+    for edit in EDITS + LOOKUPS + WAYS_OUT + ORDERS[order]:
         text = apply(text, edit)
     return text
 
 
 def print_edits() -> None:
-    groups = [("every copy", EDITS + WAYS_OUT)]
+    groups = [("every copy", EDITS + LOOKUPS + WAYS_OUT)]
     groups += [(f"order {name}", edits) for name, edits in ORDERS.items() if edits]
     for group, edits in groups:
         for edit in edits:

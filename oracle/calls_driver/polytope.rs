@@ -222,6 +222,7 @@ fn compare_run(check: &mut Check, n: &mut Numbers, epa: &mut EPA) -> Compared {
         counts.faces_made,
         counts.faces_live,
         counts.most_edges,
+        counts.missed,
     ];
     let answer = (Answer::of_vectors(run.way, run.values), counts, after);
     let lists = before.lists(BEFORE_LISTS);

@@ -68,8 +68,12 @@ pub fn push_line(out: &mut Vec<u8>, number: u32, answer: &Answer) {
     if let Some(counts) = counts(answer) {
         write!(
             out,
-            " {} {} {} {}",
-            counts.expansions, counts.faces_made, counts.faces_live, counts.most_edges
+            " {} {} {} {} {}",
+            counts.expansions,
+            counts.faces_made,
+            counts.faces_live,
+            counts.most_edges,
+            counts.missed
         )
         .expect("memory takes every line");
     }

@@ -47,6 +47,8 @@ struct Stats {
     most_faces: usize,
     most_edges: usize,
     most_heap: usize,
+    with_missed: u64,
+    most_missed: usize,
 }
 
 impl Stats {
@@ -69,6 +71,8 @@ impl Stats {
         self.most_faces = self.most_faces.max(counts.faces_made);
         self.most_edges = self.most_edges.max(counts.most_edges);
         self.most_heap = self.most_heap.max(polytope.most_heap());
+        self.with_missed += u64::from(counts.missed > 0);
+        self.most_missed = self.most_missed.max(counts.missed);
     }
 
     fn print(&self, output: &mut impl Write) -> io::Result<()> {
@@ -86,6 +90,11 @@ impl Stats {
             output,
             "most faces {}, most edges {}, most heap entries {}",
             self.most_faces, self.most_edges, self.most_heap
+        )?;
+        writeln!(
+            output,
+            "runs with lookups that missed {}, most missed {}",
+            self.with_missed, self.most_missed
         )
     }
 }

@@ -34,10 +34,10 @@ abbrev pub answerWith : ℕ → Vec3 → Vec3 → Vec3 → Counts → Answer
 answerWith outcome p1 p2 n c = record { outcome = outcome; point1 = p1; point2 = p2; normal = n; counts = c }
 
 abbrev pub countsOf : Told.Counts → Counts
-countsOf c = record { expansions = c .expansions; made = c .made; live = c .live; edges = c .edges }
+countsOf c = record { expansions = c .expansions; made = c .made; live = c .live; edges = c .edges; missed = c .missed }
 
 abbrev pub noCounts : Counts
-noCounts = record { expansions = 0; made = 0; live = 0; edges = 0 }
+noCounts = record { expansions = 0; made = 0; live = 0; edges = 0; missed = 0 }
 
 -- the refusal of document 01's number, after the four answers
 abbrev pub refusedAs : ℕ → Counts → Answer

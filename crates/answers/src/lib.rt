@@ -73,6 +73,7 @@ fn counts_of(c: lines::Counts) -> Counts
         made: c.made,
         live: c.live,
         edges: c.edges,
+        missed: c.missed,
     }
 }
 
@@ -84,6 +85,7 @@ fn no_counts() -> Counts
         made: 0,
         live: 0,
         edges: 0,
+        missed: 0,
     }
 }
 

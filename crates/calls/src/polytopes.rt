@@ -81,6 +81,7 @@ fn put_told(out: &mut [u8; 65_536], at: usize, told: epa::Answer) -> usize {
             counts.faces_made,
             counts.faces_live,
             counts.most_edges,
+            counts.missed,
         ],
     )
 }

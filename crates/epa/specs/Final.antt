@@ -34,9 +34,9 @@ answered f x = final (f (x .answer)) (x .lists)
 
 -- ---- a run's answer
 
--- the counts: expansions completed, faces made, faces live at the end, and the most edges recorded in one pass
+-- the counts: expansions completed, faces made, faces live at the end, the most edges recorded in one pass, and the lookups that missed
 abbrev pub countsAt : List ℕ → Tally → Counts
-countsAt deleted c = record { expansions = c .done; «faces_made» = c .faces; «faces_live» = liveTo (c .faces) deleted; «most_edges» = c .most }
+countsAt deleted c = record { expansions = c .done; «faces_made» = c .faces; «faces_live» = liveTo (c .faces) deleted; «most_edges» = c .most; missed = c .missed }
 
 abbrev pub answerAt : List ℕ → Finish → Answer
 answerAt deleted x = record { end = x .end; counts = countsAt deleted (x .tally) }

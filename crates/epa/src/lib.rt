@@ -78,6 +78,7 @@ fn counts_of(deleted: &[u8], tally: Tally) -> Counts
         faces_made: tally.faces,
         faces_live: live_to(deleted, tally.faces),
         most_edges: tally.most,
+        missed: tally.missed,
     }
 }
 

@@ -1,9 +1,8 @@
 // The polytope grows to a new vertex (of the body of the loop of `EPA::closest_points` what follows the test of the bound): the face is
 // deleted, with those that the vertex sees, and new faces join the vertex to the silhouette.
 ghost use mathlib.Core.Path.{_≡_};
-ghost use Prim.Native.Nat.{max};
-ghost use Rattle.epa_polytope.specs.Stores.{withVertices, withFaceIds, withFaceFloats, withDeleted, withEdges, edgeCount, mostCount};
-ghost use Rattle.epa_polytope.specs.Expansion.{silhouette, expand};
+ghost use Rattle.epa_polytope.specs.Stores.{withVertices, withFaceIds, withFaceFloats, withDeleted, withEdges};
+ghost use Rattle.epa_polytope.specs.Expansion.{passedTally, silhouette, expand};
 ghost use Rattle.epa_polytope.specs.Contracts.{Leaves, lent, when, single};
 use crate::ring::regrow;
 use epa_faces::facing_at;
@@ -17,11 +16,12 @@ use epa_silhouette::pass;
 use epa_stores::set_deleted;
 
 // The tally after a pass of n edges.
-fn passed(tally: Tally, n: usize) -> Tally
-    ensures { λ r. ⌜ r ≡ edgeCount n (mostCount (max (tally .most) n) tally) ⌝ }
+fn passed(tally: Tally, n: usize, missed: usize) -> Tally
+    ensures { λ r. ⌜ r ≡ passedTally n missed tally ⌝ }
 {
     let mut next = tally;
     next.edges = n;
+    next.missed = missed;
     if tally.most < n {
         next.most = n;
     }
@@ -43,14 +43,31 @@ fn silhouette(
         (λ m k. withVertices (when m vertices) (withFaceIds (when m ids)
         (withFaceFloats (when m floats) (withDeleted (when m deleted) (withEdges (when m edges) k))))) ⌝ }
 {
-    let a = facing_at(ids, face, 0);
-    let b = facing_at(ids, face, 1);
-    let c = facing_at(ids, face, 2);
+    let a = facing_at(ids, face, 0, tally.missed);
+    let b = facing_at(ids, face, 1, a.missed);
+    let c = facing_at(ids, face, 2, b.missed);
     let room = edges.len() / 2;
-    let answer = pass(vertices, ids, floats, deleted, edges, point, a, b, c);
+    let walked = pass(
+        vertices,
+        ids,
+        floats,
+        deleted,
+        edges,
+        point,
+        c.missed,
+        a.question,
+        b.question,
+        c.question,
+    );
+    let answer = walked.answer;
     match answer {
-        WalkAnswer::Done(n) => Step::Onward(passed(tally, n)),
-        WalkAnswer::NoRoom => Step::Ended(End::NoRoom(Store::Edges), passed(tally, room)),
+        WalkAnswer::Done(n) => Step::Onward(passed(tally, n, walked.missed)),
+        WalkAnswer::NoRoom => {
+            Step::Ended(
+                End::NoRoom(Store::Edges),
+                passed(tally, room, walked.missed),
+            )
+        }
     }
 }
 

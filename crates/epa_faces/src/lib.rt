@@ -5,11 +5,13 @@ ghost use lib.Ieee.{binary32};
 ghost use Rattle.epa_polytope.specs.Face.{faceNormal, faceNew, weightsOr, holdsAt};
 ghost use Rattle.epa_polytope.specs.Contracts.{Reads};
 ghost use Rattle.epa_polytope.specs.Stores.{vertexAt, withVertices, withFaceIds, withFaceFloats};
-ghost use Rattle.epa_polytope.specs.Silhouette.{nextCcwPtId, facing};
+ghost use Rattle.epa_polytope.specs.Silhouette.{nextCcwPtId, cornerOr0, misses, facingFrom};
 ghost use Rattle.epa_polytope.specs.Steps.{weighted, answerOf};
 ghost use Rattle.epa_polytope.specs.Expansion.{canBeSeenBy};
 use epa_polytope::End;
+use epa_polytope::Facing;
 use epa_polytope::Found;
+use epa_polytope::Lookup;
 use epa_polytope::Made;
 use epa_polytope::Question;
 use epa_stores::corner_at;
@@ -103,26 +105,56 @@ pub fn answer_of(why: Found, vertices: &[f32], ids: &[usize], floats: &[f32], i:
     End::Answers(why, point1, point2, normal_of(floats, i))
 }
 
-// `next_ccw_pt_id`: the corner after that of the face which is the vertex `id`.
-pub fn next_ccw_pt_id(ids: &[usize], face: usize, id: usize) -> usize
+// `next_ccw_pt_id`: the corner after that of the face which is the vertex `id`, if one is.
+pub fn next_ccw_pt_id(ids: &[usize], face: usize, id: usize) -> Lookup
     ensures { λ r. ⌜ r ≡ nextCcwPtId (now (ids .entry)) face id ⌝ }
 {
     if corner_at(ids, face, 0) == id {
-        return 1;
+        return Lookup::FoundAt(1);
     }
     if corner_at(ids, face, 1) == id {
-        return 2;
+        return Lookup::FoundAt(2);
     }
-    0
+    if corner_at(ids, face, 2) == id {
+        return Lookup::FoundAt(0);
+    }
+    Lookup::Missing
 }
 
-// The question to the neighbour k of the face.
-pub fn facing_at(ids: &[usize], face: usize, k: usize) -> Question
-    ensures { λ r. ⌜ r ≡ facing (now (ids .entry)) face k ⌝ }
+// The corner that a run goes on with.
+fn corner_or_0(found: Lookup) -> usize
+    ensures { λ r. ⌜ r ≡ cornerOr0 found ⌝ }
+{
+    match found {
+        Lookup::FoundAt(corner) => corner,
+        Lookup::Missing => 0,
+    }
+}
+
+// 1 for a lookup that missed.
+fn misses(found: Lookup) -> usize
+    ensures { λ r. ⌜ r ≡ misses found ⌝ }
+{
+    match found {
+        Lookup::FoundAt(_) => 0,
+        Lookup::Missing => 1,
+    }
+}
+
+// The question to the neighbour k of the face, and the lookups that have missed with its own.
+pub fn facing_at(ids: &[usize], face: usize, k: usize, missed: usize) -> Facing
+    ensures { λ r. ⌜ r ≡ facingFrom (now (ids .entry)) face k missed ⌝ }
 {
     let next = neighbour_at(ids, face, k);
-    let corner = next_ccw_pt_id(ids, next, corner_at(ids, face, k));
-    Question { face: next, corner }
+    let found = next_ccw_pt_id(ids, next, corner_at(ids, face, k));
+    let question = Question {
+        face: next,
+        corner: corner_or_0(found),
+    };
+    Facing {
+        question,
+        missed: std::num::wrapping_add_usize(missed, misses(found)),
+    }
 }
 
 // `can_be_seen_by`: whether the face of a question is seen from the vertex `point`. Its side opposite the question's corner is the one

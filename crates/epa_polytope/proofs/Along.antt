@@ -8,7 +8,7 @@ use lib.ListN.{length, getD, set, length-set}
 use lib.Dec.{eqb, ltb}
 use borrow.Author.Tests.{ltb-true, ltb-false}
 use Rattle.epa_polytope.specs.Stores.{cornerIn, neighbourIn}
-use Rattle.epa_polytope.specs.Silhouette.{Mesh, Walked, WalkAnswer, Done, NoRoom, Question, zeros, nextCcwPtId, facing, edgePut, notedIf, noted, askIf, ask, walkIn, walk, pass}
+use Rattle.epa_polytope.specs.Silhouette.{Mesh, Walked, WalkAnswer, Done, NoRoom, Question, zeros, nextCcwPtId, lookup, facing, withMissed, edgePut, notedIf, noted, askIf, ask, walkIn, walk, pass}
 use Rattle.epa_polytope.specs.Bounds.{NeighboursIn}
 use Rattle.epa_polytope.specs.Same.{Alike}
 use Rattle.epa_polytope.proofs.Walks.{enough, Asked, asked-facing}
@@ -20,6 +20,7 @@ pub record Together (N R R' n : ℕ) (s t : Walked) : Type 0 where
   pub answer' : t .answer ≡ Done n
   pub few : n ≤ R
   pub few' : n ≤ R'
+  pub missed : s .missed ≡ t .missed
   pub deleted : Alike N (s .deleted) (t .deleted)
   pub edges : Alike (n * 2) (s .edges) (t .edges)
   pub room : length (s .edges) / 2 ≡ R
@@ -30,6 +31,7 @@ pub record FullTogether (N R R' : ℕ) (s t : Walked) : Type 0 where
   pub answer : s .answer ≡ NoRoom
   pub answer' : t .answer ≡ NoRoom
   pub rooms : R ≡ R'
+  pub missed : s .missed ≡ t .missed
   pub deleted : Alike N (s .deleted) (t .deleted)
   pub edges : Alike (R * 2) (s .edges) (t .edges)
 
@@ -64,16 +66,28 @@ edge-length n l q = length-set (set l (n * 2) (q .face)) (n * 2 + 1) (q .corner)
 
 alike-next : (N : ℕ) (l k : List ℕ) (f p : ℕ) → f < N → Alike (N * 6) l k → nextCcwPtId l f p ≡ nextCcwPtId k f p
 unfolding nextCcwPtId
-alike-next N l k f p h a = rw (a .same (f * 6 + 0) 0 (omega arith), a .same (f * 6 + 1) 0 (omega arith))
+alike-next N l k f p h a = rw (a .same (f * 6 + 0) 0 (omega arith), a .same (f * 6 + 1) 0 (omega arith), a .same (f * 6 + 2) 0 (omega arith))
 
--- the same neighbours are asked
-pub alike-facing : (N : ℕ) (ids ids' : List ℕ) → Alike (N * 6) ids ids' → NeighboursIn N N ids → (f k : ℕ) → f < N → k < 3 → facing ids f k ≡ facing ids' f k
-unfolding facing
-alike-facing N ids ids' a h f k hf hk =
-    let e : neighbourIn ids f k ≡ neighbourIn ids' f k = a .same _ 0 (omega arith) in
-    let p : cornerIn ids f k ≡ cornerIn ids' f k = a .same _ 0 (omega arith) in
-    let x : nextCcwPtId ids (neighbourIn ids f k) (cornerIn ids f k) ≡ nextCcwPtId ids' (neighbourIn ids f k) (cornerIn ids f k) = alike-next N ids ids' _ _ (h .below f k hf hk) a in
-    cc
+module _ (N : ℕ) (ids ids' : List ℕ) (a : Alike (N * 6) ids ids') (h : NeighboursIn N N ids) (f k : ℕ) (hf : f < N) (hk : k < 3) where
+  alike-neighbour : neighbourIn ids f k ≡ neighbourIn ids' f k
+  alike-neighbour = a .same _ 0 (omega arith)
+
+  alike-lookup : lookup ids f k ≡ lookup ids' f k
+  alike-lookup =
+      let e = alike-neighbour in
+      let p : cornerIn ids f k ≡ cornerIn ids' f k = a .same _ 0 (omega arith) in
+      let x : lookup ids f k ≡ nextCcwPtId ids' (neighbourIn ids f k) (cornerIn ids f k) = alike-next N ids ids' _ _ (h .below f k hf hk) a in
+      cc
+
+  -- the same neighbours are asked
+  pub alike-facing : facing ids f k ≡ facing ids' f k
+  unfolding facing
+  alike-facing = rw (alike-lookup, alike-neighbour)
+
+  -- the same lookups miss
+  pub alike-missed : {n n' : ℕ} → n ≡ n' → withMissed ids f k n ≡ withMissed ids' f k n'
+  unfolding withMissed
+  alike-missed e = rw (alike-lookup, e)
 
 module _ (N R R' : ℕ) (m m' : Mesh) (h : NeighboursIn N N (m .ids)) (ids : Alike (N * 6) (m .ids) (m' .ids)) (seen : (q : Question) → Asked N q → m .seen q ≡ m' .seen q) where
   abbrev Pair : Walked → Walked → Type 0
@@ -91,6 +105,7 @@ module _ (N R R' : ℕ) (m m' : Mesh) (h : NeighboursIn N N (m .ids)) (ids : Ali
             answer = refl;
             answer' = refl;
             rooms = omega (arith, g .few', g .room', ltb-false n (length (t .edges) / 2) x);
+            missed = g .missed;
             deleted = g .deleted;
             edges = subst (λ (k : ℕ). Alike (k * 2) (s .edges) (t .edges)) full (g .edges);
           })
@@ -102,6 +117,7 @@ module _ (N R R' : ℕ) (m m' : Mesh) (h : NeighboursIn N N (m .ids)) (ids : Ali
             answer' = refl;
             few = omega (arith, g .room);
             few' = omega (arith, g .room');
+            missed = g .missed;
             deleted = g .deleted;
             edges = alike-edge n (s .edges) (t .edges) q l l' (g .edges);
             room = ap (λ (k : ℕ). k / 2) (edge-length n (s .edges) q) ∙ g .room;
@@ -125,11 +141,13 @@ module _ (N R R' : ℕ) (m m' : Mesh) (h : NeighboursIn N N (m .ids)) (ids : Ali
           let e2 = alike-facing N (m .ids) (m' .ids) ids h (q .face) (q .corner) (y .faceIn) (y .cornerIn) in
           let y1 = asked-facing (m .ids) N h (q .face) ((q .corner + 2) % 3) (y .faceIn) c2 in
           let y2 = asked-facing (m .ids) N h (q .face) (q .corner) (y .faceIn) (y .cornerIn) in
+          let once = alike-missed N (m .ids) (m' .ids) ids h (q .face) ((q .corner + 2) % 3) (y .faceIn) c2 (g .missed) in
           rw (← e1, ← e2) (law _ _ _ y2 (law _ _ _ y1 (both k (record {
             answer = g .answer;
             answer' = g .answer';
             few = g .few;
             few' = g .few';
+            missed = alike-missed N (m .ids) (m' .ids) ids h (q .face) (q .corner) (y .faceIn) (y .cornerIn) once;
             deleted = alike-set N (s .deleted) (t .deleted) (q .face) 1 (g .deleted);
             edges = g .edges;
             room = g .room;

@@ -196,6 +196,16 @@ live-delete (suc n) d i h z = by (λ l. live-delete n d i l z) (ℕ-discrete n i
         apart : (n ≡ i → ⊥) → i < n
         apart e = omega arith
 
+-- to delete any face makes none live
+pub live-set : (n : ℕ) (d : List ℕ) (i : ℕ) → liveTo n (set d i 1) ≤ liveTo n d
+unfolding liveTo
+live-set zero d i = omega arith
+live-set (suc n) d i = by (live-set n d i) (ℕ-discrete n i)
+  where
+    by : liveTo n (set d i 1) ≤ liveTo n d → Dec (n ≡ i) → liveTo (suc n) (set d i 1) ≤ liveTo (suc n) d
+    by ih (yes e) = rw e (rw (dead-at d i, live-out i d i 1 (omega arith)) (omega arith))
+    by ih (no e) = rw (getD-set-other d i n 1 1 e) (omega (arith, ih))
+
 one-most : (x : ℕ) → one x ≤ 1
 one-most zero = omega arith
 one-most (suc x) = omega arith

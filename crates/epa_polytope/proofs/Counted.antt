@@ -5,11 +5,11 @@ use Prim.Native.Nat.{ℕ, zero, suc, _+_, _≤_}
 use native.Mathlib.Omega.{arith}
 use lib.Ieee.{Float}
 use Rattle.heap.specs.Heap.{Entry}
-use Rattle.epa_polytope.specs.Silhouette.{Walked, walked, facing, pass, WalkAnswer}
+use Rattle.epa_polytope.specs.Silhouette.{Walked, facing, pass, WalkAnswer}
 use Rattle.epa_polytope.specs.Start.{World}
 use Rattle.epa_polytope.specs.Stores.{State}
 use Rattle.epa_polytope.specs.Steps.{End, Found, converged, stuck, newFaceNearer, heapEmpty, _>>=_, _>>_, look, put, answer}
-use Rattle.epa_polytope.specs.Expansion.{Expansion, delete, queueNew, growAt, grow, growAll, clearEdges, closeRing, regrow, expand, meshOf, passed, silhouette}
+use Rattle.epa_polytope.specs.Expansion.{Expansion, delete, queueNew, growAt, grow, growAll, clearEdges, closeRing, regrow, expand, meshOf, beforePass, passed, silhouette}
 use Rattle.epa_polytope.specs.Run.{Best, popEntry, popLive, settle, visit, visitIf, complete, iterate}
 use Rattle.epa_polytope.proofs.Steps.{Meets, goes, ends, meets-bind, meets-then, meets-look, meets-put, meets-pure, meets-ok, meets-stop, meets-stopIf, meets-doIf, meets-branch, meets-link, meets-face, meets-queue, meets-vertex}
 use Rattle.epa_polytope.proofs.Moves.{Keeps, left}
@@ -77,7 +77,7 @@ module _ (w : World) (k : ℕ) where
   done-silhouette p i t h =
       let l = t .lists in
       let ids = l .faceIds in
-      let u = pass (meshOf (w .numbers) l p) (walked (l .deleted) (l .edges) (Done 0)) (facing ids i 0) (facing ids i 1) (facing ids i 2) in
+      let u = pass (meshOf (w .numbers) l p) (beforePass t i) (facing ids i 0) (facing ids i 1) (facing ids i 2) in
       done-passed t u (u .answer) h
 
   done-queueNew : (u : Expansion) (i : ℕ) (t : State) → t .tally .done ≡ k → Meets D DE (queueNew (w .numbers) u i t)

@@ -16,10 +16,10 @@ use Rattle.epa_polytope.specs.declared.types.End.{End}
 use Rattle.epa_polytope.specs.declared.types.End.the-variants.{Nothing, NoRoom as NoRoomIn}
 use Rattle.epa_polytope.specs.declared.types.Step.{Step}
 use Rattle.epa_polytope.specs.declared.types.Step.the-variants.{Onward, Ended}
-use Rattle.epa_polytope.specs.Stores.{Lists, stateOf, withFaceIds, withDeleted, withEdges, edgeCount, mostCount, linkedIn}
-use Rattle.epa_polytope.specs.Silhouette.{Walked, walked, facing, pass}
+use Rattle.epa_polytope.specs.Stores.{Lists, stateOf, withFaceIds, withDeleted, withEdges, edgeCount, mostCount, missedCount, linkedIn}
+use Rattle.epa_polytope.specs.Silhouette.{Walked, walked, Facing, facingFrom, pass}
 use Rattle.epa_polytope.specs.Steps.{Numbers, stopIf, put, look, _>>=_, _>>_}
-use Rattle.epa_polytope.specs.Expansion.{blank, clearEdges, closeRing, link, growAll, regrow, delete, meshOf, passed, silhouette, expand}
+use Rattle.epa_polytope.specs.Expansion.{blank, clearEdges, closeRing, link, growAll, regrow, delete, meshOf, passedTally, passed, silhouette, expand}
 use Rattle.epa_polytope.specs.Contracts.{Does, stepOut}
 use Rattle.epa_polytope.proofs.Doing.{looked, stopped, not-stopped, goes-on, ends-here}
 
@@ -59,24 +59,24 @@ module _ (w : Numbers) (u : Expansion) (l : Lists) (run : Tally) where
 
 -- ---- the silhouette
 
-pub passed-more : (c : Tally) (n : ℕ) → c .most < n → edgeCount n (mostCount n c) ≡ edgeCount n (mostCount (max (c .most) n) c)
-passed-more c n h = let e : max (c .most) n ≡ n = omega arith in rw e
+pub passed-more : (c : Tally) (n missed : ℕ) → c .most < n → edgeCount n (mostCount n (missedCount missed c)) ≡ passedTally n missed c
+passed-more c n missed h = let e : max (c .most) n ≡ n = omega arith in rw e
 
-pub passed-same : (c : Tally) (n : ℕ) → n ≤ c .most → edgeCount n c ≡ edgeCount n (mostCount (max (c .most) n) c)
-passed-same c n h = let e : max (c .most) n ≡ c .most = omega arith in rw e
+pub passed-same : (c : Tally) (n missed : ℕ) → n ≤ c .most → edgeCount n (missedCount missed c) ≡ passedTally n missed c
+passed-same c n missed h = let e : max (c .most) n ≡ c .most = omega arith in rw e
 
 -- the pass of the three neighbours of the face i answers o
-module _ (w : Numbers) (point i : ℕ) (l : Lists) (run : Tally) {a b c : Question} {deleted edges : List ℕ} {o : WalkAnswer}
-    (ia : a ≡ facing (l .faceIds) i 0) (ib : b ≡ facing (l .faceIds) i 1) (ic : c ≡ facing (l .faceIds) i 2)
-    (does : walked deleted edges o ≡ pass (meshOf w l point) (walked (l .deleted) (l .edges) (Done 0)) a b c) where
-  passes : {x : WalkAnswer} → o ≡ x → passed (stateOf l run) (walked deleted edges x) x ≡ silhouette w point i (stateOf l run)
+module _ (w : Numbers) (point i : ℕ) (l : Lists) (run : Tally) {a b c : Facing} {deleted edges : List ℕ} {missed : ℕ} {o : WalkAnswer}
+    (ia : a ≡ facingFrom (l .faceIds) i 0 (run .missed)) (ib : b ≡ facingFrom (l .faceIds) i 1 (a .missed)) (ic : c ≡ facingFrom (l .faceIds) i 2 (b .missed))
+    (does : walked deleted edges missed o ≡ pass (meshOf w l point) (walked (l .deleted) (l .edges) (c .missed) (Done 0)) (a .question) (b .question) (c .question)) where
+  passes : {x : WalkAnswer} → o ≡ x → passed (stateOf l run) (walked deleted edges missed x) x ≡ silhouette w point i (stateOf l run)
   unfolding silhouette
-  passes t = ap (λ (s : Walked). passed (stateOf l run) s (s .answer)) (rw (t, ia, ib, ic) at does)
+  passes t = ap (λ (s : Walked). passed (stateOf l run) s (s .answer)) (rw (t, ic, ib, ia) at does)
 
-  pub lined : {n : ℕ} {x : Tally} → o ≡ Done n → x ≡ edgeCount n (mostCount (max (run .most) n) run) → Does stepOut (silhouette w point i) l run (withDeleted deleted (withEdges edges l)) (Onward x)
+  pub lined : {n : ℕ} {x : Tally} → o ≡ Done n → x ≡ passedTally n missed run → Does stepOut (silhouette w point i) l run (withDeleted deleted (withEdges edges l)) (Onward x)
   lined t q = record { same = rw q (passes t) }
 
-  pub unlined : {n : ℕ} {x : Tally} → o ≡ NoRoom → n ≡ length (l .edges) / 2 → x ≡ edgeCount n (mostCount (max (run .most) n) run)
+  pub unlined : {n : ℕ} {x : Tally} → o ≡ NoRoom → n ≡ length (l .edges) / 2 → x ≡ passedTally n missed run
       → Does stepOut (silhouette w point i) l run (withDeleted deleted (withEdges edges l)) (Ended (NoRoomIn EdgeStore) x)
   unlined t h q = record { same = rw (q, h) (passes t) }
 

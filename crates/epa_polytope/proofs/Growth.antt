@@ -9,10 +9,10 @@ use lib.ListN.{getD, length}
 use lib.Seq.{getD-set-other}
 use borrow.Author.Tests.{eqb-false}
 use Rattle.heap.specs.Heap.{Entry}
-use Rattle.epa_polytope.specs.Silhouette.{WalkAnswer, Done, NoRoom, Walked, walked, facing, pass}
+use Rattle.epa_polytope.specs.Silhouette.{WalkAnswer, Done, NoRoom, Walked, facing, pass}
 use Rattle.epa_polytope.specs.Stores.{State, theEdges, liveTo, live, cornerAt, Made, roomFor, theFaces, neighbourIn, linkedIn, theHeap, heapOf}
 use Rattle.epa_polytope.specs.Steps.{End, noRoom, keyLater, Found, newFaceNearer, _>>=_, _>>_, Nil, look, put, doIf, pushFace, answerOf, answer, madeOf, three, Numbers}
-use Rattle.epa_polytope.specs.Expansion.{delete, meshOf, afterPass, passed, silhouette, link, Expansion, queueNew, growAt, grow, growAll, clearEdges, expand, regrow, closeRing}
+use Rattle.epa_polytope.specs.Expansion.{delete, meshOf, beforePass, afterPass, passed, silhouette, link, Expansion, queueNew, growAt, grow, growAll, clearEdges, expand, regrow, closeRing}
 use Rattle.epa_polytope.specs.Bounds.{Good, Sound, bound, Within, Tight, with-all, Part, theLoop, underWay, underWayFound, Ended, FromPoint, CornersIn, NeighboursIn}
 use Rattle.epa_polytope.proofs.Basics.{at-set, in-set, all-as, EdgesIn, no-edges, corners-linked, neighbours-linked, neighbours-as, corners-put, neighbours-put, but-second, live-delete, live-push}
 use Rattle.epa_polytope.proofs.Sizes.{bound-suc}
@@ -184,7 +184,7 @@ module _ (J : State → Type 0) where
           let l = s .lists in
           let ids = l .faceIds in
           let m = meshOf w l (u .point) in
-          let s0 = walked (l .deleted) (l .edges) (Done 0) in
+          let s0 = beforePass s i in
           let a = h .sound .neighboursIn in
           let y0 = asked-facing ids N a i 0 (h .faceIn) (omega arith) in
           let y1 = asked-facing ids N a i 1 (h .faceIn) (omega arith) in

@@ -12,12 +12,12 @@ use Rattle.shape.specs.declared.vertex.Vertex.{Vertex}
 use Rattle.heap.specs.Heap.{Heap, Entry, heap, entryAt, put as putEntry, swap, less, riseIn, rise, placed, greater, sinkIn, sink, pushed, cleared, settled, popped}
 use Rattle.epa_polytope.proofs.Moves.{Keeps, withLink, withPass, withFace, left}
 use Rattle.epa_polytope.specs.Start.{World, VoronoiSimplex, exchanged}
-use Rattle.epa_polytope.specs.Expansion.{blank, clearEdges, delete, meshOf}
+use Rattle.epa_polytope.specs.Expansion.{blank, clearEdges, delete, meshOf, beforePass}
 use Rattle.epa_polytope.specs.Stores.{Lists, putMade, putVertex, vecCells, Made, Store, State, heapOf, vertexAt, roomFor, Three, withVertices, faceCells, withHeap}
 use Rattle.epa_polytope.specs.Run.{complete, run}
 use Rattle.epa_polytope.specs.Steps.{Numbers, End, _>>=_, look, ended, put, noRoom, Out, Over}
 use Rattle.epa_polytope.specs.Bounds.{suffices, Starting, facesAtStart, Ended, Ends}
-use Rattle.epa_polytope.specs.Silhouette.{walked, Done, facing}
+use Rattle.epa_polytope.specs.Silhouette.{facing}
 use Rattle.epa_polytope.proofs.Start.{run-keeps, start-most, demand-3}
 use Rattle.epa_polytope.specs.Stores.{theVertices, theFaces, theEdges, theHeap}
 use Rattle.epa_polytope.specs.Bounds.{without, with-all}
@@ -148,7 +148,7 @@ module _ (l : Lists) where
   same-walked w s p i h =
       let k = s .lists in
       let m = meshOf w k p in
-      let w0 = walked (k .deleted) (k .edges) (Done 0) in
+      let w0 = beforePass s i in
       record {
         ofVertices = h .ofVertices;
         ofFaceIds = h .ofFaceIds;

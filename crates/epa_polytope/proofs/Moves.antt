@@ -7,10 +7,10 @@ use Rattle.shape.specs.declared.vertex.Vertex.{Vertex}
 use Rattle.heap.specs.Heap.{Entry, pushed, popped}
 use Rattle.epa_polytope.specs.Stores.{Made, Three, State, stateOf, withVertices, withFaceIds, withFaceFloats, withDeleted, withHeap, vertexCount, faceCount, heapCount, roomFor, theVertices, theFaces, theHeap}
 use Rattle.epa_polytope.specs.Stores.{putVertex, putFace, putMade, linkedIn, heapOf}
-use Rattle.epa_polytope.specs.Silhouette.{Walked, walked, Done, facing, pass}
+use Rattle.epa_polytope.specs.Silhouette.{Walked, facing, pass}
 use Rattle.epa_polytope.specs.Steps.{Numbers, Out, onward, ended}
 use Rattle.epa_polytope.specs.Start.{exchanged}
-use Rattle.epa_polytope.specs.Expansion.{delete, meshOf, afterPass, clearEdges}
+use Rattle.epa_polytope.specs.Expansion.{delete, meshOf, beforePass, afterPass, clearEdges}
 use Rattle.epa_polytope.specs.Run.{complete}
 use Rattle.epa_polytope.specs.Bounds.{NeighboursIn}
 use Rattle.epa_polytope.proofs.Walks.{recordedOf, edgeRoom}
@@ -51,10 +51,10 @@ abbrev pub passFrom : Numbers → State → ℕ → ℕ → Walked
 passFrom w s p i =
     let l = s .lists in
     let ids = l .faceIds in
-    pass (meshOf w l p) (walked (l .deleted) (l .edges) (Done 0)) (facing ids i 0) (facing ids i 1) (facing ids i 2)
+    pass (meshOf w l p) (beforePass s i) (facing ids i 0) (facing ids i 1) (facing ids i 2)
 
 abbrev pub withPass : Numbers → State → ℕ → ℕ → State
-withPass w s p i = let t = passFrom w s p i in afterPass s t (recordedOf (edgeRoom (walked (s .lists .deleted) (s .lists .edges) (Done 0))) (t .answer))
+withPass w s p i = let t = passFrom w s p i in afterPass s t (recordedOf (edgeRoom (beforePass s i)) (t .answer))
 
 -- J is kept at every move of a run: a push, where there is room; the exchange, where there are vertices to exchange; a pop, of n + 1 entries; a
 -- deletion, a link and a pass, of faces that were made; the clearing of the edges; and the end of an expansion

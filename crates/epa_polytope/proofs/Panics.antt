@@ -7,10 +7,10 @@ use Prim.Native.Nat.{ℕ, zero, suc, _+_}
 use lib.Ieee.{Float}
 use Rattle.shape.specs.declared.vertex.Vertex.{Vertex}
 use Rattle.heap.specs.Heap.{Entry}
-use Rattle.epa_polytope.specs.Silhouette.{Walked, walked, facing, pass}
+use Rattle.epa_polytope.specs.Silhouette.{Walked, facing, pass}
 use Rattle.epa_polytope.specs.Start.{World, VoronoiSimplex, firstFar, queueStart, fourFaces, queueFour, startFour, third, twoFaces, startTwo, second, bootstrap, pushPoints, startVertices, startFaces, begin, exchange}
 use Rattle.epa_polytope.specs.Stores.{State, Made, liveTo, live, vertexAt, pointAt, Lists, Three, stateOf, noneYet}
-use Rattle.epa_polytope.specs.Expansion.{Expansion, meshOf, delete, passed, silhouette, link, queueNew, growAt, grow, growAll, clearEdges, closeRing, regrow, expand}
+use Rattle.epa_polytope.specs.Expansion.{Expansion, meshOf, beforePass, delete, passed, silhouette, link, queueNew, growAt, grow, growAll, clearEdges, closeRing, regrow, expand}
 use Rattle.epa_polytope.specs.Run.{Best, popEntry, popLive, settle, visit, visitIf, complete, iterate, loop, expansions, epa, run}
 use Rattle.epa_polytope.specs.Steps.{Found, Lost, Site, End, answers, nothing, panics, noRoom, Act, ended, Nil, _>>=_, _>>_, look, put, pure, ok, stopIf, doIf, branch, pushVertex, pushFace, enqueue, queueFace, answerOf, answer}
 use Rattle.epa_polytope.specs.Silhouette.{WalkAnswer, Done, NoRoom}
@@ -196,7 +196,7 @@ module _ (w : World) where
     from = λ s.
         let l = s .lists in
         let ids = l .faceIds in
-        let t = pass (meshOf (w .numbers) l point) (walked (l .deleted) (l .edges) (Done 0)) (facing ids i 0) (facing ids i 1) (facing ids i 2) in
+        let t = pass (meshOf (w .numbers) l point) (beforePass s i) (facing ids i 0) (facing ids i 1) (facing ids i 2) in
         quiet-passed s t (t .answer);
   }
 

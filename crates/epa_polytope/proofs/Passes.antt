@@ -1,17 +1,17 @@
 -- A silhouette pass of a run: what the stores are before it, and what it leaves. Assumes nothing.
 use mathlib.Core.Path.{_≡_, refl, subst}
 use mathlib.Core.Option.{Option, none, some}
-use Prim.Native.Nat.{ℕ, suc, _+_, _-_, _%_, _<_, _≤_, max}
+use Prim.Native.Nat.{ℕ, suc, _+_, _-_, _*_, _%_, _<_, _≤_, max}
 use native.Mathlib.Omega.{arith}
 use Rattle.heap.specs.Heap.{Entry}
-use Rattle.epa_polytope.specs.Silhouette.{Walked, walked, facing, pass, WalkAnswer}
+use Rattle.epa_polytope.specs.Silhouette.{Walked, facing, withMissed, pass, WalkAnswer}
 use Rattle.epa_polytope.specs.Start.{World}
 use Rattle.epa_polytope.specs.Stores.{State, liveTo, live, cornerAt, roomFor}
 use Rattle.epa_polytope.specs.Steps.{End, _>>_, pure, Found, converged, stuck, heapEmpty, answer, madeOf, three, pushFace, Numbers}
-use Rattle.epa_polytope.specs.Expansion.{Expansion, meshOf, passed, silhouette}
+use Rattle.epa_polytope.specs.Expansion.{Expansion, meshOf, beforePass, passed, silhouette}
 use Rattle.epa_polytope.specs.Bounds.{NeighboursIn}
 use Rattle.epa_polytope.specs.Demand3.{Carried, Passing, upToPassOf, upToPass, storesLeft, Joined, joinedAt, upToQueue}
-use Rattle.epa_polytope.proofs.Walks.{asked-facing, askedOf, spent-pass, fewer-pass}
+use Rattle.epa_polytope.proofs.Walks.{asked-facing, askedOf, spent-pass, fewer-pass, one-more, misses-pass}
 use Rattle.epa_polytope.proofs.Steps.{Meets, meets-ends, meets-bind, meets-then, meets-look, meets-pure, meets-stop, meets-doIf, meets-branch, meets-link, meets-face, meets-vertex}
 use Rattle.epa_polytope.proofs.Growth.{Ready, Visited, Deleted, Growing, linked, grown, one-fewer, meets-delete}
 use Rattle.epa_polytope.proofs.Iterations.{IsLive, meets-popLive, visited}
@@ -33,6 +33,7 @@ pub record Passed (s t : State) : Type 0 where
   pub sameMade : t .tally .faces ≡ s .tally .faces
   pub sameQueued : t .tally .heap ≡ s .tally .heap
   pub mostEdges : t .tally .most ≡ max (s .tally .most) (t .tally .edges)
+  pub fewMissed : t .tally .missed + 2 * live t ≤ s .tally .missed + 3 + 2 * live s
 
 -- of faces whose neighbours are faces
 pub pass-law : (w : Numbers) (p i : ℕ) (s : State) → NeighboursIn (s .tally .faces) (s .tally .faces) (s .lists .faceIds) → i < s .tally .faces
@@ -40,19 +41,22 @@ pub pass-law : (w : Numbers) (p i : ℕ) (s : State) → NeighboursIn (s .tally 
 unfolding silhouette
 pass-law w p i s a l =
     let N = s .tally .faces in
+    let n0 = s .tally .missed in
     let ids = s .lists .faceIds in
     let m = meshOf w (s .lists) p in
-    let s0 = walked (s .lists .deleted) (s .lists .edges) (Done 0) in
+    let s0 = beforePass s i in
     let y0 = asked-facing ids N a i 0 l (omega arith) in
     let y1 = asked-facing ids N a i 1 l (omega arith) in
     let y2 = asked-facing ids N a i 2 l (omega arith) in
     let t = pass m s0 (facing ids i 0) (facing ids i 1) (facing ids i 2) in
-    by t (t .answer) (fewer-pass m N a s0 _ _ _ y0 y1 y2) (omega (arith, spent-pass m N a s0 (facing ids i 0) (facing ids i 1) (facing ids i 2) y0 y1 y2 (roomFor theEdges (s .lists)) refl))
+    by t (t .answer)
+    (omega (arith, misses-pass m N a s0 (facing ids i 0) (facing ids i 1) (facing ids i 2) y0 y1 y2, one-more ids i 0 n0, one-more ids i 1 (withMissed ids i 0 n0), one-more ids i 2 (withMissed ids i 1 (withMissed ids i 0 n0))))
+    (fewer-pass m N a s0 _ _ _ y0 y1 y2) (omega (arith, spent-pass m N a s0 (facing ids i 0) (facing ids i 1) (facing ids i 2) y0 y1 y2 (roomFor theEdges (s .lists)) refl))
   where
-    by : (t : Walked) (a : WalkAnswer) → liveTo (s .tally .faces) (t .deleted) ≤ live s → askedOf (roomFor theEdges (s .lists)) a + liveTo (s .tally .faces) (t .deleted) ≤ live s + 3
+    by : (t : Walked) (a : WalkAnswer) → t .missed + 2 * liveTo (s .tally .faces) (t .deleted) ≤ s .tally .missed + 3 + 2 * live s → liveTo (s .tally .faces) (t .deleted) ≤ live s → askedOf (roomFor theEdges (s .lists)) a + liveTo (s .tally .faces) (t .deleted) ≤ live s + 3
         → Passed s (storesLeft (passed s t a))
-    by t (Done n) f e = record { noneLive = f; threeMore = e; sameVerts = refl; sameMade = refl; sameQueued = refl; mostEdges = refl }
-    by t NoRoom f e = record { noneLive = f; threeMore = omega arith; sameVerts = refl; sameMade = refl; sameQueued = refl; mostEdges = refl }
+    by t (Done n) x f e = record { noneLive = f; threeMore = e; sameVerts = refl; sameMade = refl; sameQueued = refl; mostEdges = refl; fewMissed = x }
+    by t NoRoom x f e = record { noneLive = f; threeMore = omega arith; sameVerts = refl; sameMade = refl; sameQueued = refl; mostEdges = refl; fewMissed = x }
 
 -- whatever ends the run
 abbrev Ever : End → State → Type 0

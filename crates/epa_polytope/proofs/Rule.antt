@@ -10,7 +10,7 @@ use lib.Dec.{ltb}
 use lib.Ieee.{Float}
 use Rattle.shape.specs.declared.vertex.Vertex.{Vertex}
 use Rattle.heap.specs.Heap.{Heap, Entry, noEntry, pushed, popped}
-use Rattle.epa_polytope.specs.Stores.{theVertices, theFaces, theEdges, theHeap, Three, putMade, Lists, putVertex, stateOf, Tally, vecCells, State, vertexAt, Made, putFace, noneYet, roomFor, faceCells, Store, faceCount, withHeap, vertexCount, heapCount, withVertices, heapOf, doneCount, edgeCount, mostCount}
+use Rattle.epa_polytope.specs.Stores.{theVertices, theFaces, theEdges, theHeap, Three, putMade, Lists, putVertex, stateOf, Tally, vecCells, State, vertexAt, Made, putFace, noneYet, roomFor, faceCells, Store, faceCount, withHeap, vertexCount, heapCount, withVertices, heapOf, doneCount, edgeCount, mostCount, missedCount}
 use Rattle.epa_polytope.proofs.Places.{stays, after, one-set, some-sets, if-so, reads-set, used, given-back, blanked}
 use Rattle.epa_polytope.proofs.Heaps.{inside-pushed, inside-popped}
 use Rattle.epa_polytope.specs.Start.{World, exchanged, VoronoiSimplex}
@@ -18,12 +18,11 @@ use Rattle.epa_polytope.specs.Rule.{Untouched, Returned, Ruled, InRoom, 
 use Rattle.epa_polytope.specs.Steps.{Numbers, End, _>>=_, look, put, ended, onward}
 use Rattle.epa_polytope.proofs.Moves.{Keeps, withLink, withPass, withFace, left, passFrom}
 use Rattle.epa_polytope.specs.Run.{complete, run}
-use Rattle.epa_polytope.specs.Expansion.{delete, clearEdges, meshOf}
+use Rattle.epa_polytope.specs.Expansion.{delete, clearEdges, meshOf, beforePass}
 use Rattle.epa_polytope.specs.Bounds.{NeighboursIn, Sound}
 use Rattle.epa_polytope.proofs.Lengths.{same-moves, SameLength, same-rooms, long-itself}
 use Rattle.epa_polytope.specs.Demand3.{Carried, runTo}
 use Rattle.epa_polytope.proofs.Walks.{Reached, edgeRoom, reached-pass, recordedOf, asked-facing}
-use Rattle.epa_polytope.specs.Silhouette.{walked, Done}
 use Rattle.epa_polytope.proofs.Start.{run-keeps, meets-runTo, empty-lent}
 
 -- ---- what a record of nine or six numbers is written over
@@ -78,7 +77,7 @@ module _ (m : ℕ) (ids0 : List ℕ) (keys0 : List Float) (h : Heap) where
 -- ---- a pass
 
 pass-reached : (w : Numbers) (s : State) (p i : ℕ) → NeighboursIn (s .tally .faces) (s .tally .faces) (s .lists .faceIds) → i < s .tally .faces
-    → Reached (s .tally .faces) (walked (s .lists .deleted) (s .lists .edges) (Done 0)) (passFrom w s p i)
+    → Reached (s .tally .faces) (beforePass s i) (passFrom w s p i)
 pass-reached w s p i a h =
     let n = s .tally .faces in
     let ids = s .lists .faceIds in
@@ -145,7 +144,7 @@ module _ (l : Lists) where
   rule-pass : (w : Numbers) (s : State) (p i : ℕ) → NeighboursIn (s .tally .faces) (s .tally .faces) (s .lists .faceIds) → i < s .tally .faces → s .tally .edges ≡ 0 → Ruled l s → Ruled l (withPass w s p i)
   rule-pass w s p i a b z h =
       let t = pass-reached w s p i a b in
-      let room : edgeRoom (passFrom w s p i) ≡ edgeRoom (walked (s .lists .deleted) (s .lists .edges) (Done 0)) = ap (λ (n : ℕ). n / 2) (t .sameRoom) in
+      let room : edgeRoom (passFrom w s p i) ≡ edgeRoom (beforePass s i) = ap (λ (n : ℕ). n / 2) (t .sameRoom) in
       record {
         vertices = h .vertices;
         faceIds = h .faceIds;
@@ -304,10 +303,10 @@ module _ (l : Lists) where
       by theEdges = h .counts theEdges
       by theHeap = b
 
-  room-edges : (c : Tally) (n m : ℕ) → n ≤ roomFor theEdges l → m ≤ roomFor theEdges l → InRoom l c → InRoom l (edgeCount n (mostCount m c))
-  room-edges c n m b d h = record { counts = by; most = d }
+  room-edges : (c : Tally) (n m x : ℕ) → n ≤ roomFor theEdges l → m ≤ roomFor theEdges l → InRoom l c → InRoom l (edgeCount n (mostCount m (missedCount x c)))
+  room-edges c n m x b d h = record { counts = by; most = d }
     where
-      by : (y : Store) → countFor y (edgeCount n (mostCount m c)) ≤ roomFor y l
+      by : (y : Store) → countFor y (edgeCount n (mostCount m (missedCount x c))) ≤ roomFor y l
       by theVertices = h .counts theVertices
       by theFaces = h .counts theFaces
       by theEdges = b
@@ -325,14 +324,14 @@ module _ (l : Lists) where
   room-pass : (w : Numbers) (s : State) (p i : ℕ) → NeighboursIn (s .tally .faces) (s .tally .faces) (s .lists .faceIds) → i < s .tally .faces → Roomy s → InRoom l (withPass w s p i .tally)
   room-pass w s p i a b h =
       let t = pass-reached w s p i a b in
-      let room : edgeRoom (passFrom w s p i) ≡ edgeRoom (walked (s .lists .deleted) (s .lists .edges) (Done 0)) = ap (λ (n : ℕ). n / 2) (t .sameRoom) in
-      let fits : recordedOf (edgeRoom (walked (s .lists .deleted) (s .lists .edges) (Done 0))) (passFrom w s p i .answer) ≤ edgeRoom (walked (s .lists .deleted) (s .lists .edges) (Done 0)) = rw room at (t .fits) in
+      let room : edgeRoom (passFrom w s p i) ≡ edgeRoom (beforePass s i) = ap (λ (n : ℕ). n / 2) (t .sameRoom) in
+      let fits : recordedOf (edgeRoom (beforePass s i)) (passFrom w s p i .answer) ≤ edgeRoom (beforePass s i) = rw room at (t .fits) in
       let same = same-rooms l (s .lists) (h .0) theEdges in
-      room-edges (s .tally) _ _ (omega arith) (omega (arith, h .1 .most)) (h .1)
+      room-edges (s .tally) _ _ _ (omega arith) (omega (arith, h .1 .most)) (h .1)
 
   room-clear : (s : State) → Roomy s → InRoom l (left (clearEdges s) .tally)
   unfolding clearEdges _>>=_ look put
-  room-clear s h = room-edges (s .tally) 0 (s .tally .most) (omega arith) (h .1 .most) (h .1)
+  room-clear s h = room-edges (s .tally) 0 (s .tally .most) (s .tally .missed) (omega arith) (h .1 .most) (h .1)
 
   room-delete : (s : State) (i : ℕ) → Roomy s → InRoom l (left (delete i s) .tally)
   unfolding delete _>>=_ look put

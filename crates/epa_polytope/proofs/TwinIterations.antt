@@ -10,16 +10,16 @@ use borrow.Author.Tests.{eqb-false, leb-true, leb-false}
 use Rattle.vector.specs.declared.vec3.Vec3.{Vec3}
 use Rattle.vector.specs.Vector.{dotV}
 use Rattle.heap.specs.Heap.{Entry, entryAt}
-use Rattle.epa_polytope.specs.Silhouette.{Walked, walked, facing, pass, Question, WalkAnswer, Done, NoRoom}
+use Rattle.epa_polytope.specs.Silhouette.{Walked, facing, withMissed, pass, Question, WalkAnswer, Done, NoRoom}
 use Rattle.epa_polytope.specs.Start.{World, formatOf}
-use Rattle.epa_polytope.specs.Stores.{State, theEdges, theFaces, normalAt, pointAt, cornerAt, deletedAt, vertexAt, Lists, Three, roomFor, heapOf, Tally, Made, edgeCount, mostCount}
+use Rattle.epa_polytope.specs.Stores.{State, theEdges, theFaces, normalAt, pointAt, cornerAt, deletedAt, vertexAt, Lists, Three, roomFor, heapOf, Tally, Made}
 use Rattle.epa_polytope.specs.Steps.{noRoom, nothing, noSilhouette, allDeleted, keyLater, Found, newFaceNearer, converged, stuck, heapEmpty, enoughExpansions, Out, Act, next, _>>=_, _>>_, Nil, pure, stop, look, put, stopIf, doIf, three, pushFace, madeOf, answer, Numbers}
-use Rattle.epa_polytope.specs.Expansion.{delete, canBeSeenBy, meshOf, afterPass, passed, silhouette, link, Expansion, queueNew, growAt, grow, growAll, clearEdges, closeRing, regrow, expand, edgeFace, edgeCorner}
+use Rattle.epa_polytope.specs.Expansion.{delete, canBeSeenBy, meshOf, beforePass, passedTally, afterPass, passed, silhouette, link, Expansion, queueNew, growAt, grow, growAll, clearEdges, closeRing, regrow, expand, edgeFace, edgeCorner}
 use Rattle.epa_polytope.specs.Run.{Best, bettered, settle, visit, visitIf, popEntry, popLive, complete, iterate, loop}
 use Rattle.epa_polytope.specs.Bounds.{CornersIn, NeighboursIn}
 use Rattle.epa_polytope.specs.Same.{Alike, Same, short, alike}
 use Rattle.epa_polytope.proofs.Alike.{alike-none, alike-entry}
-use Rattle.epa_polytope.proofs.Along.{Along, along-pass, alike-facing}
+use Rattle.epa_polytope.proofs.Along.{Along, along-pass, alike-facing, alike-missed}
 use Rattle.epa_polytope.proofs.Along as A
 use Rattle.epa_polytope.proofs.Walks.{Asked, asked-facing}
 use Rattle.epa_polytope.proofs.Lengths.{SameLength, same-rooms, same-walked}
@@ -95,14 +95,9 @@ module _ (lent lent' : Lists) where
 
   -- ---- a pass
 
-  -- the tally after a pass that records n edges
-  passedTally : ℕ → Tally → Tally
-  passedTally n c = edgeCount n (mostCount (max (c .most) n) c)
-
-  same-passed : (s t : State) (T T' : Walked) (n n' : ℕ) → n ≡ n' → Same s t → Alike (s .tally .faces) (T .deleted) (T' .deleted) → Alike (n * 2) (T .edges) (T' .edges) → Same (afterPass s T n) (afterPass t T' n')
-  unfolding passedTally
-  same-passed s t T T' n n' e x d g = record {
-    tally = ap (passedTally n) (x .tally) ∙ ap (λ (m : ℕ). passedTally m (t .tally)) e;
+  same-passed : (s t : State) (T T' : Walked) (n n' : ℕ) → n ≡ n' → Same s t → Alike (s .tally .faces) (T .deleted) (T' .deleted) → Alike (n * 2) (T .edges) (T' .edges) → T .missed ≡ T' .missed → Same (afterPass s T n) (afterPass t T' n')
+  same-passed s t T T' n n' e x d g y = record {
+    tally = ap (passedTally n (T .missed)) (x .tally) ∙ ap (λ (m : ℕ). passedTally m (T .missed) (t .tally)) e ∙ ap (λ (m : ℕ). passedTally n' m (t .tally)) y;
     vertices = x .vertices;
     faceIds = x .faceIds;
     faceFloats = x .faceFloats;
@@ -123,11 +118,11 @@ module _ (lent lent' : Lists) where
   twins-passed s t T T' d d' h (A.bothFull g) =
       subst (λ (a : WalkAnswer). Twins lent lent' (passed s T a) (passed t T' (T' .answer))) (sym (g .answer))
       (subst (λ (a : WalkAnswer). Twins lent lent' (passed s T NoRoom) (passed t T' a)) (sym (g .answer'))
-      (record { held = alike refl (same-passed s t T T' _ _ (g .rooms) (h .same) (g .deleted) (g .edges)) }))
+      (record { held = alike refl (same-passed s t T T' _ _ (g .rooms) (h .same) (g .deleted) (g .edges) (g .missed)) }))
   twins-passed s t T T' d d' h (A.both n g) =
       subst (λ (a : WalkAnswer). Twins lent lent' (passed s T a) (passed t T' (T' .answer))) (sym (g .answer))
       (subst (λ (a : WalkAnswer). Twins lent lent' (passed s T (Done n)) (passed t T' a)) (sym (g .answer'))
-      (both-on lent lent' tt tt refl (record { same = same-passed s t T T' n n refl (h .same) (g .deleted) (g .edges); kept = d; kept' = d' })))
+      (both-on lent lent' tt tt refl (record { same = same-passed s t T T' n n refl (h .same) (g .deleted) (g .edges) (g .missed); kept = d; kept' = d' })))
 
   pub twins-silhouette : (w : Numbers) (p i : ℕ) (s t : State) → NeighboursIn (s .tally .faces) (s .tally .faces) (s .lists .faceIds)
       → CornersIn (s .tally .vertices) (s .tally .faces) (s .lists .faceIds) → i < s .tally .faces → p < s .tally .vertices → Twin lent lent' s t
@@ -142,10 +137,13 @@ module _ (lent lent' : Lists) where
       let x = h .same in
       let m = meshOf w (s .lists) p in
       let m' = meshOf w (t .lists) p in
-      let W = walked (s .lists .deleted) (s .lists .edges) (Done 0) in
-      let W' = walked (t .lists .deleted) (t .lists .edges) (Done 0) in
+      let W = beforePass s i in
+      let W' = beforePass t i in
       let go : (k : ℕ) → k < 3 → facing ids i k ≡ facing ids' i k = λ k lk. alike-facing N ids ids' (x .faceIds) a i k l lk in
-      let start : Along N R R' W W' = A.both 0 (record { answer = refl; answer' = refl; few = omega arith; few' = omega arith; deleted = x .deleted; edges = alike-none _ _; room = refl; room' = refl }) in
+      let more0 = alike-missed N ids ids' (x .faceIds) a i 0 l (omega arith) (ap (λ (c : Tally). c .missed) (x .tally)) in
+      let more1 = alike-missed N ids ids' (x .faceIds) a i 1 l (omega arith) more0 in
+      let more2 = alike-missed N ids ids' (x .faceIds) a i 2 l (omega arith) more1 in
+      let start : Along N R R' W W' = A.both 0 (record { answer = refl; answer' = refl; few = omega arith; few' = omega arith; missed = more2; deleted = x .deleted; edges = alike-none _ _; room = refl; room' = refl }) in
       let along = along-pass N R R' m m' a (x .faceIds) (λ q y. same-seen (w .format) s t p q hp ins y x) W W' (facing ids i 0) (facing ids i 1) (facing ids i 2)
       (asked-facing ids N a i 0 l (omega arith)) (asked-facing ids N a i 1 l (omega arith)) (asked-facing ids N a i 2 l (omega arith)) start in
       let T = pass m W (facing ids i 0) (facing ids i 1) (facing ids i 2) in

@@ -2,14 +2,14 @@
 use mathlib.Core.Path.{_≡_, refl, sym, ap, subst, _∙_}
 use mathlib.Core.Bool.{Bool, true, false, cond}
 use mathlib.Core.List.{List, [], _∷_}
-use Prim.Native.Nat.{ℕ, zero, suc, _+_, _*_, _/_, _%_, _<_, _≤_}
-use native.Mathlib.Nat.{le-refl}
+use Prim.Native.Nat.{ℕ, zero, suc, _+_, _*_, _/_, _%_, _^_, _<_, _≤_}
+use native.Mathlib.Nat.{le-refl, mod-le}
 use native.Mathlib.Omega.{arith}
 use lib.ListN.{length, getD, set, length-set}
 use lib.Dec.{eqb, ltb}
 use borrow.Author.Tests.{eqb-true, eq-eqb, ne-eqb, ltb-true, ltb-false}
 use Rattle.epa_polytope.specs.Stores.{cornerIn, liveTo}
-use Rattle.epa_polytope.specs.Silhouette.{WalkAnswer, Done, NoRoom, Question, Mesh, Walked, walked, zeros, nextCcwPtId, facing, edgePut, notedIf, noted, askIf, ask, walkIn, walk, pass}
+use Rattle.epa_polytope.specs.Silhouette.{WalkAnswer, Done, NoRoom, Question, Mesh, Walked, walked, zeros, Lookup, Facing, FoundAt, Missing, nextCcwPtId, cornerOr0, misses, lookup, facing, withMissed, facingFrom, entered, edgePut, notedIf, noted, askIf, ask, walkIn, walk, pass}
 use Rattle.epa_polytope.specs.Bounds.{NeighboursIn}
 use Rattle.epa_polytope.specs.Rule.{Untouched}
 use Rattle.epa_polytope.proofs.Basics.{EdgesIn, edges-put, live-delete}
@@ -41,7 +41,7 @@ module _ (m : Mesh) (Q : Question → Type 0) (P : Walked → Walked → Type 0)
     (on : (q : Question) → Q q → Q (facing (m .ids) (q .face) ((q .corner + 2) % 3)) × Q (facing (m .ids) (q .face) (q .corner)))
     (stay : (s : Walked) → P s s)
     (edge : (s : Walked) (n : ℕ) (q : Question) → Q q → s .answer ≡ Done n → P s (noted s n q))
-    (both : (s s1 s2 : Walked) (q : Question) → Q q → getD (s .deleted) (q .face) 1 ≡ 0 → P (walked (set (s .deleted) (q .face) 1) (s .edges) (s .answer)) s1 → P s1 s2 → P s s2) where
+    (both : (s s1 s2 : Walked) (q : Question) → Q q → getD (s .deleted) (q .face) 1 ≡ 0 → P (entered m s q) s1 → P s1 s2 → P s s2) where
   ask-law : (go : Go) → ((s : Walked) (q : Question) → Q q → P s (go s q)) → (s : Walked) (q : Question) → Q q → P s (ask m go s q)
   unfolding ask
   ask-law go h s q y = by (s .answer) (eqb (getD (s .deleted) (q .face) 1) 0) (m .seen q) refl refl
@@ -106,7 +106,7 @@ ask-agree m go go' s q low same = by (s .answer) (eqb (getD (s .deleted) (q .fac
     by (Done k) false v e = refl
     by (Done k) true false e = refl
     by (Done k) true true e =
-        let s1 : Walked = walked (set (s .deleted) (q .face) 1) (s .edges) (s .answer) in
+        let s1 : Walked = entered m s q in
         let q1 : Question = facing (m .ids) (q .face) ((q .corner + 2) % 3) in
         let q2 : Question = facing (m .ids) (q .face) (q .corner) in
         let l1 : zeros (s1 .deleted) < zeros (s .deleted) = omega (arith, zeros-set (s .deleted) (q .face) (eqb-true _ _ e)) in
@@ -137,14 +137,15 @@ pub record Asked (N : ℕ) (q : Question) : Type 0 where
   pub faceIn : q .face < N
   pub cornerIn : q .corner < 3
 
-next-below : (ids : List ℕ) (f p : ℕ) → nextCcwPtId ids f p < 3
+next-below : (ids : List ℕ) (f p : ℕ) → cornerOr0 (nextCcwPtId ids f p) < 3
 unfolding nextCcwPtId
-next-below ids f p = by (eqb (cornerIn ids f 0) p) (eqb (cornerIn ids f 1) p)
+next-below ids f p = by (eqb (cornerIn ids f 0) p) (eqb (cornerIn ids f 1) p) (eqb (cornerIn ids f 2) p)
   where
-    by : (a b : Bool) → cond a 1 (cond b 2 0) < 3
-    by true b = omega arith
-    by false true = omega arith
-    by false false = omega arith
+    by : (a b c : Bool) → cornerOr0 (cond a (FoundAt 1) (cond b (FoundAt 2) (cond c (FoundAt 0) Missing))) < 3
+    by true b c = omega arith
+    by false true c = omega arith
+    by false false true = omega arith
+    by false false false = omega arith
 
 -- a neighbour can be asked
 pub asked-facing : (ids : List ℕ) (N : ℕ) → NeighboursIn N N ids → (f k : ℕ) → f < N → k < 3 → Asked N (facing ids f k)
@@ -261,7 +262,7 @@ module _ (m : Mesh) (N : ℕ) (h : NeighboursIn N N (m .ids)) where
       q
       y
     where
-      as-deleted : (s : Walked) (q : Question) (a : WalkAnswer) → Recorded N s a → Recorded N (walked (set (s .deleted) (q .face) 1) (s .edges) (s .answer)) a
+      as-deleted : (s : Walked) (q : Question) (a : WalkAnswer) → Recorded N s a → Recorded N (entered m s q) a
       as-deleted s q (Done n) i = i
       as-deleted s q NoRoom i = tt
 
@@ -325,6 +326,44 @@ module _ (m : Mesh) (N : ℕ) (h : NeighboursIn N N (m .ids)) where
     unfolding pass
     kept-pass i = kept (walk m (walk m s a) b) c yc (kept (walk m s a) b yb (kept s a ya i))
 
+-- ---- the lookups that miss
+
+misses-one : (a : Lookup) → misses a ≤ 1
+misses-one (FoundAt k) = omega arith
+misses-one Missing = omega arith
+
+-- a lookup that misses is one more, if any
+pub one-more : (ids : List ℕ) (f k n : ℕ) → withMissed ids f k n ≤ n + 1
+unfolding withMissed
+one-more ids f k n = omega (arith, misses-one (lookup ids f k), mod-le (n + misses (lookup ids f k)) (2 ^ 64))
+
+module _ (m : Mesh) (N : ℕ) (h : NeighboursIn N N (m .ids)) where
+  -- a question brings two at most for each face that it deletes
+  pub misses-few : (s : Walked) (q : Question) → Asked N q → walk m s q .missed + 2 * liveTo N (walk m s q .deleted) ≤ s .missed + 2 * liveTo N (s .deleted)
+  misses-few s q y = walk-law m (Asked N) (λ s s'. s' .missed + 2 * liveTo N (s' .deleted) ≤ s .missed + 2 * liveTo N (s .deleted))
+      (on-asked m N h)
+      (λ s. omega arith)
+      (λ s n q y e. misses-noted s n q)
+      (λ s s1 s2 q y z p1 p2.
+      omega (arith, p1, p2, live-delete N (s .deleted) (q .face) (y .faceIn) z, one-more (m .ids) (q .face) ((q .corner + 2) % 3) (s .missed), one-more (m .ids) (q .face) (q .corner) (withMissed (m .ids) (q .face) ((q .corner + 2) % 3) (s .missed))))
+      s
+      q
+      y
+    where
+      misses-noted : (s : Walked) (n : ℕ) (q : Question) → noted s n q .missed + 2 * liveTo N (noted s n q .deleted) ≤ s .missed + 2 * liveTo N (s .deleted)
+      misses-noted s n q = by (ltb n (length (s .edges) / 2))
+        where
+          by : (b : Bool) → notedIf b s n q .missed + 2 * liveTo N (notedIf b s n q .deleted) ≤ s .missed + 2 * liveTo N (s .deleted)
+          by true = omega arith
+          by false = omega arith
+
+  pub misses-pass : (s : Walked) (a b c : Question) → Asked N a → Asked N b → Asked N c → pass m s a b c .missed + 2 * liveTo N (pass m s a b c .deleted) ≤ s .missed + 2 * liveTo N (s .deleted)
+  unfolding pass
+  misses-pass s a b c ya yb yc =
+      let s1 = walk m s a in
+      let s2 = walk m s1 b in
+      omega (arith, misses-few s a ya, misses-few s1 b yb, misses-few s2 c yc)
+
 pub same-room-pass : (m : Mesh) (s : Walked) (a b c : Question) → length (pass m s a b c .edges) ≡ length (s .edges)
 unfolding pass
 same-room-pass m s a b c = same-room m _ c ∙ same-room m _ b ∙ same-room m s a
@@ -339,38 +378,44 @@ pub walk-zeros : (m : Mesh) (s : Walked) (q : Question) → zeros (walk m s q .d
 unfolding walk
 walk-zeros m s q = walkIn-zeros (zeros (s .deleted)) m s q
 
-pub walk-full : (m : Mesh) (d es : List ℕ) (q : Question) → walked d es NoRoom ≡ walk m (walked d es NoRoom) q
-unfolding ask
-walk-full m d es q = sym (walk-step m (walked d es NoRoom) q)
-
-module _ (m : Mesh) (d es : List ℕ) (q : Question) (n : ℕ) where
-  pub walk-dead : (getD d (q .face) 1 ≡ 0 → ⊥) → walked d es (Done n) ≡ walk m (walked d es (Done n)) q
+module _ (m : Mesh) (s : Walked) (q : Question) where
+  pub walk-full : s .answer ≡ NoRoom → s ≡ walk m s q
   unfolding ask
-  walk-dead e = rw (walk-step m (walked d es (Done n)) q, ne-eqb _ _ e)
+  walk-full e = rw (walk-step m s q, e)
 
-  module _ (z : getD d (q .face) 1 ≡ 0) where
-    pub walk-edge : m .seen q ≡ false → noted (walked d es (Done n)) n q ≡ walk m (walked d es (Done n)) q
+  module _ {n : ℕ} (e : s .answer ≡ Done n) where
+    pub walk-dead : (getD (s .deleted) (q .face) 1 ≡ 0 → ⊥) → s ≡ walk m s q
     unfolding ask
-    walk-edge e = rw (walk-step m (walked d es (Done n)) q, eq-eqb _ _ z, e)
+    walk-dead h = rw (walk-step m s q, e, ne-eqb _ _ h)
 
-    walk-seen : m .seen q ≡ true → walk m (walk m (walked (set d (q .face) 1) es (Done n)) (facing (m .ids) (q .face) ((q .corner + 2) % 3))) (facing (m .ids) (q .face) (q .corner)) ≡ walk m (walked d es (Done n)) q
-    unfolding ask
-    walk-seen e = rw (walk-step m (walked d es (Done n)) q, eq-eqb _ _ z, e)
+    module _ (z : getD (s .deleted) (q .face) 1 ≡ 0) where
+      pub walk-edge : m .seen q ≡ false → noted s n q ≡ walk m s q
+      unfolding ask
+      walk-edge h = rw (walk-step m s q, e, eq-eqb _ _ z, h)
 
-    -- by the states that the two calls leave
-    pub walk-both : (d1 : List ℕ) (q1 q2 : Question) → m .seen q ≡ true → d1 ≡ set d (q .face) 1
-        → q1 ≡ facing (m .ids) (q .face) ((q .corner % 3 + 2) % 3) → q2 ≡ facing (m .ids) (q .face) (q .corner)
-        → (s1 s2 : Walked) → s1 ≡ walk m (walked d1 es (Done n)) q1 → s2 ≡ walk m s1 q2 → s2 ≡ walk m (walked d es (Done n)) q
-    walk-both d1 q1 q2 e ed e1 e2 s1 s2 h1 h2 =
-        let f1 : q1 ≡ facing (m .ids) (q .face) ((q .corner + 2) % 3) = e1 ∙ ap (λ (k : ℕ). facing (m .ids) (q .face) k) (next-two (q .corner)) in
-        cc (walk-seen e)
+      walk-seen : m .seen q ≡ true → walk m (walk m (entered m s q) (facing (m .ids) (q .face) ((q .corner + 2) % 3))) (facing (m .ids) (q .face) (q .corner)) ≡ walk m s q
+      unfolding ask
+      walk-seen h = rw (walk-step m s q, e, eq-eqb _ _ z, h)
+
+      -- by the lookups that the code makes, and the states that the two calls leave
+      pub walk-both : (d1 : List ℕ) (f1 f2 : Facing) → m .seen q ≡ true → d1 ≡ set (s .deleted) (q .face) 1
+          → f1 ≡ facingFrom (m .ids) (q .face) ((q .corner % 3 + 2) % 3) (s .missed) → f2 ≡ facingFrom (m .ids) (q .face) (q .corner) (f1 .missed)
+          → (s1 s2 : Walked) → s1 ≡ walk m (walked d1 (s .edges) (f2 .missed) (Done n)) (f1 .question) → s2 ≡ walk m s1 (f2 .question) → s2 ≡ walk m s q
+      walk-both d1 f1 f2 h ed e1 e2 s1 s2 h1 h2 =
+          let g1 : f1 ≡ facingFrom (m .ids) (q .face) ((q .corner + 2) % 3) (s .missed) = e1 ∙ ap (λ (k : ℕ). facingFrom (m .ids) (q .face) k (s .missed)) (next-two (q .corner)) in
+          let y1 : f1 .missed ≡ withMissed (m .ids) (q .face) ((q .corner + 2) % 3) (s .missed) = ap (λ (f : Facing). f .missed) g1 in
+          let y2 : f2 .missed ≡ withMissed (m .ids) (q .face) (q .corner) (f1 .missed) = ap (λ (f : Facing). f .missed) e2 in
+          let q1 : f1 .question ≡ facing (m .ids) (q .face) ((q .corner + 2) % 3) = ap (λ (f : Facing). f .question) g1 in
+          let q2 : f2 .question ≡ facing (m .ids) (q .face) (q .corner) = ap (λ (f : Facing). f .question) e2 in
+          let last = walk-seen h in
+          cc
 
 -- the measure falls at both calls
 pub fall-first : (d d1 : List ℕ) (f t : ℕ) → zeros d ≡ t → getD d f 1 ≡ 0 → d1 ≡ set d f 1 → zeros d1 < t
 fall-first d d1 f t e z h = rw h (omega (arith, zeros-set d f z))
 
-pub fall-second : (m : Mesh) (d1 : List ℕ) (t : ℕ) (es : List ℕ) (a : WalkAnswer) (q : Question) (s : Walked) → zeros d1 < t → s ≡ walk m (walked d1 es a) q → zeros (s .deleted) < t
-fall-second m d1 t es a q s l r = rw r (omega (arith, walk-zeros m (walked d1 es a) q))
+pub fall-second : (m : Mesh) (d1 : List ℕ) (t : ℕ) (es : List ℕ) (x : ℕ) (a : WalkAnswer) (q : Question) (s : Walked) → zeros d1 < t → s ≡ walk m (walked d1 es x a) q → zeros (s .deleted) < t
+fall-second m d1 t es x a q s l r = rw r (omega (arith, walk-zeros m (walked d1 es x a) q))
 
 -- a pass by the states that its three walks leave
 pub pass-of : (m : Mesh) (s : Walked) (a b c : Question) (s1 s2 s3 : Walked) → s1 ≡ walk m s a → s2 ≡ walk m s1 b → s3 ≡ walk m s2 c → s3 ≡ pass m s a b c

@@ -8,9 +8,9 @@ use lib.Ieee.{Format, lt, le, neg}
 use Rattle.number.specs.Constants.{epsTol}
 use Rattle.vector.specs.Vector.{subV, dotV}
 use Rattle.projection.specs.Triangle.{isAffinelyDependent}
-use Rattle.epa_polytope.specs.Stores.{Lists, State, stateOf, withFaceIds, withDeleted, withEdges, edgeCount, mostCount, roomFor, theEdges, vertexAt, normalOf, cornerIn}
+use Rattle.epa_polytope.specs.Stores.{Lists, State, Tally, stateOf, withFaceIds, withDeleted, withEdges, edgeCount, mostCount, missedCount, roomFor, theEdges, vertexAt, normalOf, cornerIn}
 use Rattle.epa_polytope.specs.Stores.{linkedIn, pointAt, normalAt, cornerAt, deletedAt}
-use Rattle.epa_polytope.specs.Silhouette.{Question, WalkAnswer, Done, NoRoom, Mesh, Walked, walked, facing, pass}
+use Rattle.epa_polytope.specs.Silhouette.{Question, WalkAnswer, Done, NoRoom, Mesh, Walked, walked, facing, withMissed, pass}
 use Rattle.epa_polytope.specs.Steps.{Numbers, three, Out, onward, ended, Act, Nil, _>>=_, _>>_, look, put, ok, stopIf, doIf, branch, nothing, noRoom}
 use Rattle.epa_polytope.specs.Steps.{newFaceNearer, keyLater, noSilhouette, allDeleted, pushFace, queueFace, answer, madeOf}
 pub use Rattle.epa_polytope.specs.declared.types.Expansion.{Expansion}
@@ -32,9 +32,12 @@ canBeSeenBy f l point q =
     let pt = vertexAt (l .vertices) point .point in
     le (neg (epsTol f)) (dotV f (subV f pt p0) (normalOf (l .faceFloats) (q .face))) || isAffinelyDependent f (record { a = p1; b = p2; c = pt })
 
--- the state after a pass of which n edges are recorded
+-- the tally and the state after a pass of which n edges are recorded
+abbrev pub passedTally : ℕ → ℕ → Tally → Tally
+passedTally n missed c = edgeCount n (mostCount (max (c .most) n) (missedCount missed c))
+
 abbrev pub afterPass : State → Walked → ℕ → State
-afterPass s t n = stateOf (withDeleted (t .deleted) (withEdges (t .edges) (s .lists))) (edgeCount n (mostCount (max (s .tally .most) n) (s .tally)))
+afterPass s t n = stateOf (withDeleted (t .deleted) (withEdges (t .edges) (s .lists))) (passedTally n (t .missed) (s .tally))
 
 abbrev pub passed : State → Walked → WalkAnswer → Out Nil
 passed s t (Done n) = onward tt (afterPass s t n)
@@ -44,12 +47,18 @@ passed s t NoRoom = ended (noRoom theEdges) (afterPass s t (roomFor theEdges (s 
 abbrev pub meshOf : Numbers → Lists → ℕ → Mesh
 meshOf w l point = record { ids = l .faceIds; seen = canBeSeenBy (w .format) l point }
 
+-- what it begins with: the three neighbours of the face i are looked up before the first is asked
+abbrev pub beforePass : State → ℕ → Walked
+beforePass s i =
+    let ids = s .lists .faceIds in
+    walked (s .lists .deleted) (s .lists .edges) (withMissed ids i 2 (withMissed ids i 1 (withMissed ids i 0 (s .tally .missed)))) (Done 0)
+
 -- `compute_silhouette` of the three neighbours of the face i, which is deleted already, in order
 unfoldable pub silhouette : Numbers → ℕ → ℕ → Act Nil
 silhouette w point i s =
     let l = s .lists in
     let ids = l .faceIds in
-    let t = pass (meshOf w l point) (walked (l .deleted) (l .edges) (Done 0)) (facing ids i 0) (facing ids i 1) (facing ids i 2) in
+    let t = pass (meshOf w l point) (beforePass s i) (facing ids i 0) (facing ids i 1) (facing ids i 2) in
     passed s t (t .answer)
 
 -- ---- the new faces

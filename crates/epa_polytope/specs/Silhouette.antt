@@ -1,5 +1,5 @@
 -- The silhouette walk: `compute_silhouette` of src/query/epa/epa3.rs with `next_ccw_pt_id`, over any test of which faces are seen. Definitions only.
-use Prim.Native.Nat.{ℕ, zero, suc, _+_, _*_, _/_, _%_}
+use Prim.Native.Nat.{ℕ, zero, suc, _+_, _*_, _/_, _%_, _^_}
 use mathlib.Core.List.{List, [], _∷_}
 use mathlib.Core.Bool.{Bool, true, false, cond}
 use lib.ListN.{length, getD, set}
@@ -7,40 +7,83 @@ use lib.Dec.{eqb, ltb}
 use Rattle.epa_polytope.specs.Stores.{cornerIn, neighbourIn, one}
 pub use Rattle.epa_polytope.specs.declared.types.WalkAnswer.{WalkAnswer}
 pub use Rattle.epa_polytope.specs.declared.types.WalkAnswer.the-variants.{Done, NoRoom}
+pub use Rattle.epa_polytope.specs.declared.types.WalkSoFar.{WalkSoFar}
 pub use Rattle.epa_polytope.specs.declared.types.Question.{Question}
+pub use Rattle.epa_polytope.specs.declared.types.Facing.{Facing}
+pub use Rattle.epa_polytope.specs.declared.types.Lookup.{Lookup}
+pub use Rattle.epa_polytope.specs.declared.types.Lookup.the-variants.{FoundAt, Missing}
 
 -- what a walk only reads: the faces' corners and neighbours, and which questions find a face seen
 pub record Mesh : Type 0 where
   pub ids : List ℕ
   pub seen : Question → Bool
 
--- what it changes: which faces are deleted (0: live), and the edges; and how many these are, or that there was no room for one
+-- what it changes: which faces are deleted (0: live), and the edges; how many lookups have missed; and how many edges there are, or that there was no room for one
 pub record Walked : Type 0 where
   pub deleted : List ℕ
   pub edges : List ℕ
+  pub missed : ℕ
   pub answer : WalkAnswer
 
-abbrev pub walked : List ℕ → List ℕ → WalkAnswer → Walked
-walked deleted edges answer = record { deleted = deleted; edges = edges; answer = answer }
+abbrev pub walked : List ℕ → List ℕ → ℕ → WalkAnswer → Walked
+walked deleted edges missed answer = record { deleted = deleted; edges = edges; missed = missed; answer = answer }
 
--- `next_ccw_pt_id`: the corner after that of the face f which is the vertex p
-unfoldable pub nextCcwPtId : List ℕ → ℕ → ℕ → ℕ
-nextCcwPtId ids f p = cond (eqb (cornerIn ids f 0) p) 1 (cond (eqb (cornerIn ids f 1) p) 2 0)
+-- by what the code answers
+abbrev pub walkedBy : List ℕ → List ℕ → WalkSoFar → Walked
+walkedBy deleted edges r = walked deleted edges (r .missed) (r .answer)
 
--- the question to the neighbour of the face f at its corner k
+-- ---- the lookups
+
+-- `next_ccw_pt_id`: the corner after that of the face f which is the vertex p. Where none is, the Rust logs a line
+unfoldable pub nextCcwPtId : List ℕ → ℕ → ℕ → Lookup
+nextCcwPtId ids f p =
+    cond (eqb (cornerIn ids f 0) p) (FoundAt 1)
+    (cond (eqb (cornerIn ids f 1) p) (FoundAt 2)
+    (cond (eqb (cornerIn ids f 2) p) (FoundAt 0) Missing))
+
+-- the corner that a run goes on with: 0, where the lookup missed
+abbrev pub cornerOr0 : Lookup → ℕ
+cornerOr0 (FoundAt k) = k
+cornerOr0 Missing = 0
+
+abbrev pub misses : Lookup → ℕ
+misses (FoundAt k) = 0
+misses Missing = 1
+
+-- the vertex k of the face f, looked up in its neighbour there
+abbrev pub lookup : List ℕ → ℕ → ℕ → Lookup
+lookup ids f k = nextCcwPtId ids (neighbourIn ids f k) (cornerIn ids f k)
+
+-- the question to that neighbour
 unfoldable pub facing : List ℕ → ℕ → ℕ → Question
-facing ids f k = record { face = neighbourIn ids f k; corner = nextCcwPtId ids (neighbourIn ids f k) (cornerIn ids f k) }
+facing ids f k = record { face = neighbourIn ids f k; corner = cornerOr0 (lookup ids f k) }
+
+-- n lookups that missed, and that one if it does. The sum wraps where a word ends, which no run comes near (`few-missed` of proofs/Missed.antt)
+unfoldable pub withMissed : List ℕ → ℕ → ℕ → ℕ → ℕ
+withMissed ids f k n = (n + misses (lookup ids f k)) % 2 ^ 64
+
+-- both, as the code makes them
+abbrev pub facingFrom : List ℕ → ℕ → ℕ → ℕ → Facing
+facingFrom ids f k n = record { question = facing ids f k; missed = withMissed ids f k n }
+
+-- ---- the walk
 
 -- `self.silhouette.push(SilhouetteEdge::new(id, opp_pt_id))`, the n-th, if there is room for it
 abbrev pub edgePut : List ℕ → ℕ → Question → List ℕ
 edgePut l n q = set (set l (n * 2) (q .face)) (n * 2 + 1) (q .corner)
 
 abbrev pub notedIf : Bool → Walked → ℕ → Question → Walked
-notedIf true s n q = walked (s .deleted) (edgePut (s .edges) n q) (Done (n + 1))
-notedIf false s n q = walked (s .deleted) (s .edges) NoRoom
+notedIf true s n q = walked (s .deleted) (edgePut (s .edges) n q) (s .missed) (Done (n + 1))
+notedIf false s n q = walked (s .deleted) (s .edges) (s .missed) NoRoom
 
 abbrev pub noted : Walked → ℕ → Question → Walked
 noted s n q = notedIf (ltb n (length (s .edges) / 2)) s n q
+
+-- a face that is seen is deleted, and in both other neighbours its vertex is looked up, before the first is asked
+abbrev pub entered : Mesh → Walked → Question → Walked
+entered m s q =
+    let once = withMissed (m .ids) (q .face) ((q .corner + 2) % 3) (s .missed) in
+    walked (set (s .deleted) (q .face) 1) (s .edges) (withMissed (m .ids) (q .face) (q .corner) once) (s .answer)
 
 -- A question, where `go` asks those that follow from it. A walk that has found no room does nothing more; a deleted face does nothing; a live face that is not seen is an edge; one that is seen is
 -- deleted, and its two other neighbours are asked, in order
@@ -49,7 +92,7 @@ askIf NoRoom live seen m go s q = s
 askIf (Done n) false seen m go s q = s
 askIf (Done n) true false m go s q = noted s n q
 askIf (Done n) true true m go s q =
-    go (go (walked (set (s .deleted) (q .face) 1) (s .edges) (s .answer)) (facing (m .ids) (q .face) ((q .corner + 2) % 3))) (facing (m .ids) (q .face) (q .corner))
+    go (go (entered m s q) (facing (m .ids) (q .face) ((q .corner + 2) % 3))) (facing (m .ids) (q .face) (q .corner))
 
 unfoldable pub ask : Mesh → (Walked → Question → Walked) → Walked → Question → Walked
 ask m go s q = askIf (s .answer) (eqb (getD (s .deleted) (q .face) 1) 0) (m .seen q) m go s q

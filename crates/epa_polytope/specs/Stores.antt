@@ -68,30 +68,33 @@ roomFor theFaces l = faceRoom l
 roomFor theEdges l = length (l .edges) / 2
 roomFor theHeap l = heapRoom l
 
--- ---- the tally: the entries of each store, the expansions completed, and the most edges recorded in one pass
+-- ---- the tally: the entries of each store, the expansions completed, the most edges recorded in one pass, and the lookups that missed
 
 -- one setter for each
 abbrev pub vertexCount : ℕ → Tally → Tally
-vertexCount n c = record { vertices = n; faces = c .faces; edges = c .edges; heap = c .heap; done = c .done; most = c .most }
+vertexCount n c = record { vertices = n; faces = c .faces; edges = c .edges; heap = c .heap; done = c .done; most = c .most; missed = c .missed }
 
 abbrev pub faceCount : ℕ → Tally → Tally
-faceCount n c = record { vertices = c .vertices; faces = n; edges = c .edges; heap = c .heap; done = c .done; most = c .most }
+faceCount n c = record { vertices = c .vertices; faces = n; edges = c .edges; heap = c .heap; done = c .done; most = c .most; missed = c .missed }
 
 abbrev pub edgeCount : ℕ → Tally → Tally
-edgeCount n c = record { vertices = c .vertices; faces = c .faces; edges = n; heap = c .heap; done = c .done; most = c .most }
+edgeCount n c = record { vertices = c .vertices; faces = c .faces; edges = n; heap = c .heap; done = c .done; most = c .most; missed = c .missed }
 
 abbrev pub heapCount : ℕ → Tally → Tally
-heapCount n c = record { vertices = c .vertices; faces = c .faces; edges = c .edges; heap = n; done = c .done; most = c .most }
+heapCount n c = record { vertices = c .vertices; faces = c .faces; edges = c .edges; heap = n; done = c .done; most = c .most; missed = c .missed }
 
 abbrev pub doneCount : ℕ → Tally → Tally
-doneCount n c = record { vertices = c .vertices; faces = c .faces; edges = c .edges; heap = c .heap; done = n; most = c .most }
+doneCount n c = record { vertices = c .vertices; faces = c .faces; edges = c .edges; heap = c .heap; done = n; most = c .most; missed = c .missed }
 
 abbrev pub mostCount : ℕ → Tally → Tally
-mostCount n c = record { vertices = c .vertices; faces = c .faces; edges = c .edges; heap = c .heap; done = c .done; most = n }
+mostCount n c = record { vertices = c .vertices; faces = c .faces; edges = c .edges; heap = c .heap; done = c .done; most = n; missed = c .missed }
+
+abbrev pub missedCount : ℕ → Tally → Tally
+missedCount n c = record { vertices = c .vertices; faces = c .faces; edges = c .edges; heap = c .heap; done = c .done; most = c .most; missed = n }
 
 -- nothing is made yet
 abbrev pub noneYet : Tally
-noneYet = record { vertices = 0; faces = 0; edges = 0; heap = 0; done = 0; most = 0 }
+noneYet = record { vertices = 0; faces = 0; edges = 0; heap = 0; done = 0; most = 0; missed = 0 }
 
 -- ---- the state of a run
 

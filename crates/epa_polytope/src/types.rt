@@ -10,10 +10,28 @@ pub struct Question {
     pub corner: usize,
 }
 
+// Whether a face has a vertex: at the corner before this one, or at none (what `next_ccw_pt_id` finds).
+pub enum Lookup {
+    FoundAt(usize),
+    Missing,
+}
+
+// The question to a neighbour, and how many lookups of the run have missed.
+pub struct Facing {
+    pub question: Question,
+    pub missed: usize,
+}
+
 // How a walk ends: with the number of edges that are now recorded, or for want of room.
 pub enum WalkAnswer {
     Done(usize),
     NoRoom,
+}
+
+// How far a walk has come: how it would end here, and how many lookups of the run have missed.
+pub struct WalkSoFar {
+    pub answer: WalkAnswer,
+    pub missed: usize,
 }
 
 // What a face is made of, besides the numbers of its corners and neighbours: the normal, the weights of the
@@ -31,8 +49,8 @@ pub struct Three {
     pub c: usize,
 }
 
-// How far a run has come: the entries in each store, the expansions completed, and the most edges recorded in
-// one pass.
+// How far a run has come: the entries in each store, the expansions completed, the most edges recorded in one
+// pass, and the lookups that missed.
 pub struct Tally {
     pub vertices: usize,
     pub faces: usize,
@@ -40,6 +58,7 @@ pub struct Tally {
     pub heap: usize,
     pub done: usize,
     pub most: usize,
+    pub missed: usize,
 }
 
 // The store that was full.

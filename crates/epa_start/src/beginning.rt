@@ -25,6 +25,7 @@ fn none_yet() -> Tally
         heap: 0,
         done: 0,
         most: 0,
+        missed: 0,
     }
 }
 

@@ -1,15 +1,18 @@
 -- How long the parts of a line are, and the lines at most. By the lengths of their parts. Assumes nothing.
 use Prim.Native.Nat.{ℕ, _+_, _*_, _≤_}
 use mathlib.Core.Path.{_≡_, refl}
+use mathlib.Core.List.{List}
 use native.Mathlib.Omega.{arith}
 use lib.ListN.{length, length-append}
 use lib.Ieee.{Float, Format, binary32, binary64}
+use borrow.Author.Tests.{le-leb}
 use Rattle.vector.specs.declared.vec3.Vec3.{Vec3}
-use Rattle.lines.specs.Text.{hexPair, hexOf, decimalOf}
+use Rattle.lines.specs.Text.{placeOf, hexPair, hexOf, decimalOf}
 use Rattle.lines.specs.Lines.{floatText, vectorText, threeText, countText, countsText, floatsOf, countsOf, lineOf, badLine, lastLine}
 use Rattle.lines.specs.declared.line.Counts.{Counts}
 use Rattle.lines.specs.declared.line.Outcome.{Outcome}
 use Rattle.lines.specs.declared.line.Outcome.the-variants.{ClosestPoints, Proximity, NoIntersection, Penetration, NoAnswer, Panic, NoPlace}
+use Rattle.lines.specs.declared.text.Placed.the-variants.{Next}
 use Rattle.lines.proofs.Puts.{decimal-length}
 
 -- a float's: a space, and the digits of its word
@@ -38,11 +41,11 @@ pub count-length : (n : ℕ) → length (countText n) ≤ 21
 unfolding countText
 count-length n = omega (arith, number-length n)
 
-pub counts-length : (c : Counts) → length (countsText c) ≤ 84
+pub counts-length : (c : Counts) → length (countsText c) ≤ 105
 unfolding countsText
 counts-length c =
     simp length-append
-    (omega (arith, count-length (c .expansions), count-length (c .made), count-length (c .live), count-length (c .edges)))
+    (omega (arith, count-length (c .expansions), count-length (c .made), count-length (c .live), count-length (c .edges), count-length (c .missed)))
 
 pub floats-length : (f : Format) (o : Outcome) → length (floatsOf f o) ≤ 9 * floatSize f
 unfolding floatsOf
@@ -54,19 +57,24 @@ floats-length f (NoAnswer c) = omega arith
 floats-length f Panic = omega arith
 floats-length f (NoPlace c) = omega arith
 
-pub four-length : (o : Outcome) → length (countsOf o) ≤ 84
+pub five-length : (o : Outcome) → length (countsOf o) ≤ 105
 unfolding countsOf
-four-length (ClosestPoints a b n) = omega arith
-four-length (Proximity v) = omega arith
-four-length (NoIntersection v) = omega arith
-four-length (Penetration a b n c) = counts-length c
-four-length (NoAnswer c) = counts-length c
-four-length Panic = omega arith
-four-length (NoPlace c) = counts-length c
+five-length (ClosestPoints a b n) = omega arith
+five-length (Proximity v) = omega arith
+five-length (NoIntersection v) = omega arith
+five-length (Penetration a b n c) = counts-length c
+five-length (NoAnswer c) = counts-length c
+five-length Panic = omega arith
+five-length (NoPlace c) = counts-length c
 
-pub line-length : (f : Format) (n : ℕ) (o : Outcome) → length (lineOf f n o) ≤ 107 + 9 * floatSize f
+pub line-length : (f : Format) (n : ℕ) (o : Outcome) → length (lineOf f n o) ≤ 128 + 9 * floatSize f
 unfolding lineOf
-line-length f n o = simp length-append (omega (arith, number-length n, floats-length f o, four-length o))
+line-length f n o = simp length-append (omega (arith, number-length n, floats-length f o, five-length o))
+
+-- a place with 209 bytes after it has room for any line of f32
+pub line-fits : (out : List ℕ) (at n : ℕ) (o : Outcome) → at + 209 ≤ length out → placeOf out at (lineOf binary32 n o) .answer ≡ Next (at + length (lineOf binary32 n o))
+unfolding placeOf
+line-fits out at n o h = rw (le-leb (at + length (lineOf binary32 n o)) (length out) (omega (arith, line-length binary32 n o)))
 
 pub bad-length : (n : ℕ) → length (badLine n) ≤ 25
 unfolding badLine

@@ -29,7 +29,7 @@ unfoldable pub countText : ℕ → List ℕ
 countText n = 32 ∷ decimalOf n
 
 unfoldable pub countsText : Counts → List ℕ
-countsText c = countText (c .expansions) ++ countText (c .made) ++ countText (c .live) ++ countText (c .edges)
+countsText c = countText (c .expansions) ++ countText (c .made) ++ countText (c .live) ++ countText (c .edges) ++ countText (c .missed)
 
 -- ---- by the outcome
 
@@ -53,7 +53,7 @@ floatsOf f (NoAnswer c) = []
 floatsOf f Panic = []
 floatsOf f (NoPlace c) = []
 
--- the four counts end the lines of P, N and R
+-- the five counts end the lines of P, N and R
 unfoldable pub countsOf : Outcome → List ℕ
 countsOf (ClosestPoints a b n) = []
 countsOf (Proximity v) = []

@@ -11,7 +11,7 @@ use crate::text;
 use crate::text::Placed;
 use vector::Vec3;
 
-// The counts of a run: expansions completed, faces made, faces live at the end, most edges in one pass.
+// The counts of a run: expansions completed, faces made, faces live at the end, most edges in one pass, lookups that missed.
 // A type of its own: with that of `epa` whoever reads or prints a case would depend on the polytope, and the polytope has no
 // business with lines. The channel, which depends on both, turns one into the other.
 pub struct Counts {
@@ -19,6 +19,7 @@ pub struct Counts {
     pub made: usize,
     pub live: usize,
     pub edges: usize,
+    pub missed: usize,
 }
 
 // What a record's line tells, with its letter.
@@ -94,28 +95,29 @@ fn put_count(out: &mut [u8], at: usize, n: usize) -> usize
     text::put_decimal(out, next, n as u64, 19)
 }
 
-fn put_four(out: &mut [u8], at: usize, c: Counts) -> usize
-    requires { ⌜ at + 84 ≤ length (now out) ⌝ }
+fn put_five(out: &mut [u8], at: usize, c: Counts) -> usize
+    requires { ⌜ at + 105 ≤ length (now out) ⌝ }
     ensures { λ r. ⌜ Put (now (out .entry)) at (countsText c) (now (out .exit)) r ⌝ }
 {
     let second = put_count(out, at, c.expansions);
     let third = put_count(out, second, c.made);
     let fourth = put_count(out, third, c.live);
-    put_count(out, fourth, c.edges)
+    let fifth = put_count(out, fourth, c.edges);
+    put_count(out, fifth, c.missed)
 }
 
 fn put_counts(out: &mut [u8], at: usize, outcome: Outcome) -> usize
-    requires { ⌜ at + 84 ≤ length (now out) ⌝ }
+    requires { ⌜ at + 105 ≤ length (now out) ⌝ }
     ensures { λ r. ⌜ Put (now (out .entry)) at (countsOf outcome) (now (out .exit)) r ⌝ }
 {
     match outcome {
         Outcome::ClosestPoints(_, _, _) => at,
         Outcome::Proximity(_) => at,
         Outcome::NoIntersection(_) => at,
-        Outcome::Penetration(_, _, _, c) => put_four(out, at, c),
-        Outcome::NoAnswer(c) => put_four(out, at, c),
+        Outcome::Penetration(_, _, _, c) => put_five(out, at, c),
+        Outcome::NoAnswer(c) => put_five(out, at, c),
         Outcome::Panic => at,
-        Outcome::NoPlace(c) => put_four(out, at, c),
+        Outcome::NoPlace(c) => put_five(out, at, c),
     }
 }
 
@@ -136,7 +138,7 @@ fn letter(outcome: Outcome) -> u8
 }
 
 fn put_line(out: &mut [u8], at: usize, number: u64, outcome: Outcome) -> usize
-    requires { ⌜ at + 188 ≤ length (now out) ⌝ }
+    requires { ⌜ at + 209 ≤ length (now out) ⌝ }
     ensures { λ r. ⌜ Put (now (out .entry)) at (lineOf binary32 number outcome) (now (out .exit)) r ⌝ }
 {
     let space = text::put_decimal(out, at, number, 19);
@@ -151,7 +153,7 @@ fn put_line(out: &mut [u8], at: usize, number: u64, outcome: Outcome) -> usize
 pub fn write_line(out: &mut [u8], at: usize, number: u64, outcome: Outcome) -> Placed
     ensures { λ r. ⌜ after (now (out .exit)) r ≡ placeOf (now (out .entry)) at (lineOf binary32 number outcome) ⌝ }
 {
-    let mut line = [0u8; 192];
+    let mut line = [0u8; 216];
     let n = put_line(&mut line, 0, number, outcome);
     text::place(out, at, &line[..n])
 }

@@ -8,7 +8,7 @@ use Rattle.lines.specs.declared.line.Outcome.{Outcome}
 use Rattle.lines.specs.declared.line.Outcome.the-variants as Told
 
 abbrev pub countsOf : Epa.Counts → Counts
-countsOf c = record { expansions = c .expansions; made = c .«faces_made»; live = c .«faces_live»; edges = c .«most_edges» }
+countsOf c = record { expansions = c .expansions; made = c .«faces_made»; live = c .«faces_live»; edges = c .«most_edges»; missed = c .missed }
 
 -- letters P, N, X and R
 abbrev pub endedAs : End → Counts → Outcome

@@ -12,6 +12,7 @@ fn counts_of(c: epa::Counts) -> lines::Counts
         made: c.faces_made,
         live: c.faces_live,
         edges: c.most_edges,
+        missed: c.missed,
     }
 }
 

@@ -2,6 +2,7 @@
 // vote"). The file goes through one buffer and the lines through another, so that memory does not grow with the file.
 // What is read and written for a record is `stream::answer_next`; here is only what moves the bytes.
 // A read that fails, unlike the file's end, ends the run without the last line, and so does a write that fails.
+ghost use Rattle.separation.specs.Output.{Roomy};
 use libc::STDERR_FILENO;
 use libc::STDIN_FILENO;
 use libc::STDOUT_FILENO;
@@ -15,8 +16,8 @@ const MOST_TURNS: u64 = 4_294_967_296;
 // So many bytes always decide a record.
 const RECORD_BYTES: usize = 160;
 
-// The output has room for any line while its place is here or before.
-const NEARLY_FULL: usize = 65_344;
+// The output has room for any line, of 209 bytes at most, while its place is here or before.
+const NEARLY_FULL: usize = 65_327;
 
 // Where a write left the output's place.
 enum Room {
@@ -188,7 +189,9 @@ fn flushed(out: &[u8], place: usize) -> bool {
 }
 
 // There is room for a line.
-fn with_room(out: &[u8], place: usize) -> Room {
+fn with_room(out: &[u8], place: usize) -> Room
+    ensures { λ r. ⌜ Roomy r ⌝ }
+{
     if place <= NEARLY_FULL {
         return Room::At(place);
     }

@@ -59,8 +59,8 @@ vectors-agree f =
 counts-agree : Equivalence sameCounts
 unfolding sameCounts
 counts-agree =
-    both (both (both (along (λ (c : Counts). c .expansions) numbers) (along (λ (c : Counts). c .made) numbers)) (along (λ (c : Counts). c .live) numbers))
-    (along (λ (c : Counts). c .edges) numbers)
+    both (both (both (both (along (λ (c : Counts). c .expansions) numbers) (along (λ (c : Counts). c .made) numbers)) (along (λ (c : Counts). c .live) numbers))
+    (along (λ (c : Counts). c .edges) numbers)) (along (λ (c : Counts). c .missed) numbers)
 
 pub answers-agree : (f : Format) → Equivalence (agree f)
 unfolding agree

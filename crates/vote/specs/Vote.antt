@@ -1,4 +1,4 @@
--- The vote of document 01, "Case file and vote", with agreement as document 02 has it (ticket 3): when two answers agree, and what the answers of three channels give. Definitions only.
+-- The vote of document 01, "Case file and vote", with agreement as document 02 has it (tickets 3 and 4): when two answers agree, and what the answers of three channels give. Definitions only.
 use Prim.Native.Nat.{ℕ}
 use mathlib.Core.Bool.{Bool, cond, _&&_}
 use lib.Dec.{eqb}
@@ -21,7 +21,7 @@ sameBitsV f a b = sameBits f (a .x) (b .x) && sameBits f (a .y) (b .y) && sameBi
 
 unfoldable pub sameCounts : Counts → Counts → Bool
 sameCounts a b =
-    eqb (a .expansions) (b .expansions) && eqb (a .made) (b .made) && eqb (a .live) (b .live) && eqb (a .edges) (b .edges)
+    eqb (a .expansions) (b .expansions) && eqb (a .made) (b .made) && eqb (a .live) (b .live) && eqb (a .edges) (b .edges) && eqb (a .missed) (b .missed)
 
 -- Outcome and counts are the same, and each float agrees.
 unfoldable pub agree : Format → Answer → Answer → Bool
@@ -51,7 +51,7 @@ noAnswer =
       point1 = zeroV;
       point2 = zeroV;
       normal = zeroV;
-      counts = record { expansions = 0; made = 0; live = 0; edges = 0 };
+      counts = record { expansions = 0; made = 0; live = 0; edges = 0; missed = 0 };
     }
 
 unfoldable pub verdictAnswer : Verdict → Answer

@@ -5,7 +5,7 @@ ghost use lib.Ieee.{binary32};
 ghost use Rattle.vote.specs.Vote.{agree, sameBits, sameBitsV, sameCounts, voteOf};
 use vector::Vec3;
 
-// The counts of a run: expansions completed, faces made, faces live at the end, most edges in one pass.
+// The counts of a run: expansions completed, faces made, faces live at the end, most edges in one pass, lookups that missed.
 // A type of its own, laid out for C: the voter depends on no channel and no printer, and a channel on no voter. The embedding,
 // which depends on both, turns the counts of `lines` into these.
 #[repr(C)]
@@ -14,6 +14,7 @@ pub struct Counts {
     pub made: usize,
     pub live: usize,
     pub edges: usize,
+    pub missed: usize,
 }
 
 // What a channel answers. Floats and counts that the outcome hasn't got are zero.
@@ -37,7 +38,8 @@ pub enum Verdict {
 fn same_counts(a: Counts, b: Counts) -> bool
     ensures { λ r. ⌜ r ≡ sameCounts a b ⌝ }
 {
-    (a.expansions == b.expansions) & (a.made == b.made) & (a.live == b.live) & (a.edges == b.edges)
+    let faces = (a.expansions == b.expansions) & (a.made == b.made) & (a.live == b.live);
+    faces & (a.edges == b.edges) & (a.missed == b.missed)
 }
 
 // Whether the bits are the same, all NaNs counting as one, as `to_bits` writes them. Unlike `==`, a NaN agrees with a NaN,

@@ -6,7 +6,7 @@ use borrow.Author.Needs.{needs}
 use borrow.Fn.Kinds.{In}
 use borrow.Fn.PlainCycle.{Measures, is, falls, and}
 use Rattle.epa_polytope.specs.Stores.{Lists}
-use Rattle.epa_polytope.specs.Silhouette.{zeros, walked}
+use Rattle.epa_polytope.specs.Silhouette.{zeros, walkedBy}
 use Rattle.epa_polytope.proofs.Doing.{place}
 use Rattle.epa_polytope.proofs.Walks.{walk-full, walk-dead, walk-edge, walk-both, fall-first, fall-second}
 use Rattle.epa_silhouette.proofs.compute_silhouette.Reads as reads
@@ -60,12 +60,12 @@ module _ (t : ℕ) where
       (sym (place (lts.After-deleted-at (callees t) (at t) reads.Post) (search) .deleted-at .ensures) ∙ at-if1 .if1 .left) (c .set-deleted .ensures)
 
   returns : lts.Need-returns (callees t) (at t) reads.Post
-  returns c k = rw (c .enum-told .given .1) (walk-full _ _ _ _)
+  returns c k = walk-full _ _ _ (c .enum-told .given .1)
 
   returns-2 : lts.Need-returns-2 (callees t) (at t) reads.Post
   returns-2 c k =
-      rw (place (lts.After-sofar (callees t) (at t) reads.Post) (search) .sofar .given .1)
-      (walk-dead _ _ _ _ _ (λ z. c .if1 .taken (place (lts.After-deleted-at (callees t) (at t) reads.Post) (search) .deleted-at .ensures ∙ z)))
+      walk-dead _ _ _ (place (lts.After-answer (callees t) (at t) reads.Post) (search) .answer .given .1)
+      (λ z. c .if1 .taken (place (lts.After-deleted-at (callees t) (at t) reads.Post) (search) .deleted-at .ensures ∙ z))
 
   first-falls : lts.Need-compute-silhouette-requires (callees t) (at t) reads.Post
   first-falls c κs = (falls-there (place (lts.After-set-deleted (callees t) (at t) reads.Post) (search)), tt)
@@ -75,11 +75,11 @@ module _ (t : ℕ) where
       let first = place (lts.After-compute-silhouette (callees t) (at t) reads.Post) (search) in
       let there = place (lts.After-set-deleted (callees t) (at t) reads.Post) (search) in
       let l = first .compute-silhouette .last .1 .1 .1 in
-      (fall-second _ (there .set-deleted .last .0) t _ _ _ (walked (l .0) (l .1 .0) (first .compute-silhouette .result)) (falls-there there) (first .compute-silhouette .ensures nothing-else), tt)
+      (fall-second _ (there .set-deleted .last .0) t _ _ _ _ (walkedBy (l .0) (l .1 .0) (first .compute-silhouette .result)) (falls-there there) (first .compute-silhouette .ensures nothing-else), tt)
 
-  -- what was told before the face is deleted
-  abbrev told : lts.After-set-deleted (callees t) (at t) reads.Post → lts.After-sofar (callees t) (at t) reads.Post
-  told c = place (lts.After-sofar (callees t) (at t) reads.Post) (search)
+  -- that the walk has room so far, and that the face is live and seen
+  abbrev told : lts.After-set-deleted (callees t) (at t) reads.Post → lts.After-answer (callees t) (at t) reads.Post
+  told c = place (lts.After-answer (callees t) (at t) reads.Post) (search)
 
   abbrev asked : lts.After-set-deleted (callees t) (at t) reads.Post → lts.After-deleted-at (callees t) (at t) reads.Post
   asked c = place (lts.After-deleted-at (callees t) (at t) reads.Post) (search)
@@ -95,21 +95,21 @@ module _ (t : ℕ) where
 
   returns-3 : lts.Need-returns-3 (callees t) (at t) reads.Post
   returns-3 c k =
-      rw (told (place (lts.After-set-deleted (callees t) (at t) reads.Post) (search)) .sofar .given .1)
-      (walk-both _ _ _ _ _ (sym (asked (place (lts.After-set-deleted (callees t) (at t) reads.Post) (search)) .deleted-at .ensures) ∙ live (place (lts.After-set-deleted (callees t) (at t) reads.Post) (search)) .if1 .left)
-      (place (lts.After-set-deleted (callees t) (at t) reads.Post) (search) .set-deleted .last .0) _ _
-      (sym (seen (place (lts.After-set-deleted (callees t) (at t) reads.Post) (search)) .can-be-seen-by .ensures k) ∙ taken (place (lts.After-set-deleted (callees t) (at t) reads.Post) (search)) .if2 .taken)
-      (place (lts.After-set-deleted (callees t) (at t) reads.Post) (search) .set-deleted .ensures)
+      let gone = place (lts.After-set-deleted (callees t) (at t) reads.Post) (search) in
+      walk-both _ _ _ (told gone .answer .given .1) (sym (asked gone .deleted-at .ensures) ∙ live gone .if1 .left)
+      (gone .set-deleted .last .0) _ _
+      (sym (seen gone .can-be-seen-by .ensures k) ∙ taken gone .if2 .taken)
+      (gone .set-deleted .ensures)
       (place (lts.After-facing-at (callees t) (at t) reads.Post) (search) .facing-at .ensures) (place (lts.After-facing-at2 (callees t) (at t) reads.Post) (search) .facing-at2 .ensures) _ _
-      (place (lts.After-compute-silhouette (callees t) (at t) reads.Post) (search) .compute-silhouette .ensures k) (place (lts.After-compute-silhouette2 (callees t) (at t) reads.Post) (search) .compute-silhouette2 .ensures k))
+      (place (lts.After-compute-silhouette (callees t) (at t) reads.Post) (search) .compute-silhouette .ensures k) (place (lts.After-compute-silhouette2 (callees t) (at t) reads.Post) (search) .compute-silhouette2 .ensures k)
 
   returns-4 : lts.Need-returns-4 (callees t) (at t) reads.Post
   returns-4 c k =
       let seen = place (lts.After-can-be-seen-by (callees t) (at t) reads.Post) (search) in
-      rw (place (lts.After-sofar (callees t) (at t) reads.Post) (search) .sofar .given .1)
-      (place (lts.After-note (callees t) (at t) reads.Post) (search) .note .ensures
-      ∙ walk-edge _ _ _ _ _ (sym (place (lts.After-deleted-at (callees t) (at t) reads.Post) (search) .deleted-at .ensures) ∙ place (lts.Else1 (callees t) (at t) reads.Post) (search) .if1 .left)
-      (sym (seen .can-be-seen-by .ensures k) ∙ place (lts.Else2 (callees t) (at t) reads.Post) (search) .if2 .left))
+      let told = place (lts.After-answer (callees t) (at t) reads.Post) (search) .answer .given .1 in
+      rw (← told) at (place (lts.After-note (callees t) (at t) reads.Post) (search) .note .ensures)
+      ∙ walk-edge _ _ _ told (sym (place (lts.After-deleted-at (callees t) (at t) reads.Post) (search) .deleted-at .ensures) ∙ place (lts.Else1 (callees t) (at t) reads.Post) (search) .if1 .left)
+      (sym (seen .can-be-seen-by .ensures k) ∙ place (lts.Else2 (callees t) (at t) reads.Post) (search) .if2 .left)
 
   -- the lists keep their lengths through both walks
   same-deleted : lts.Need-same-length-2 (callees t) (at t) reads.Post

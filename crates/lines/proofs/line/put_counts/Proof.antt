@@ -6,14 +6,14 @@ use Rattle.lines.proofs.Puts.{nothing}
 use Rattle.lines.proofs.line.put_counts.Statement.{statement}
 use Rattle.lines.proofs.line.put_counts.Tie as tie
 
-put-four-requires : tie.Need-put-four-requires
-put-four-requires c κs = omega arith
+put-five-requires : tie.Need-put-five-requires
+put-five-requires c κs = omega arith
 
-put-four-requires-2 : tie.Need-put-four-requires-2
-put-four-requires-2 c κs = omega arith
+put-five-requires-2 : tie.Need-put-five-requires-2
+put-five-requires-2 c κs = omega arith
 
-put-four-requires-3 : tie.Need-put-four-requires-3
-put-four-requires-3 c κs = omega arith
+put-five-requires-3 : tie.Need-put-five-requires-3
+put-five-requires-3 c κs = omega arith
 
 returns : tie.Need-returns
 unfolding countsOf
@@ -28,29 +28,29 @@ unfolding countsOf
 returns-3 c = rw (c .enum-told3 .given .1) (nothing _ _)
 
 same-length : tie.Need-same-length
-same-length c = c .before .before .put-four .kept .0
+same-length c = c .before .before .put-five .kept .0
 
 returns-4 : tie.Need-returns-4
 unfolding countsOf
-returns-4 c = rw (c .before .before .before .before .before .outcome .given .1) (c .before .before .put-four .ensures)
+returns-4 c = rw (c .before .before .before .before .before .outcome .given .1) (c .before .before .put-five .ensures)
 
 same-length-2 : tie.Need-same-length-2
-same-length-2 c = c .before .before .put-four2 .kept .0
+same-length-2 c = c .before .before .put-five2 .kept .0
 
 returns-5 : tie.Need-returns-5
 unfolding countsOf
-returns-5 c = rw (c .before .before .before .before .before .outcome2 .given .1) (c .before .before .put-four2 .ensures)
+returns-5 c = rw (c .before .before .before .before .before .outcome2 .given .1) (c .before .before .put-five2 .ensures)
 
 returns-6 : tie.Need-returns-6
 unfolding countsOf
 returns-6 c = rw (c .enum-told4 .given .1) (nothing _ _)
 
 same-length-3 : tie.Need-same-length-3
-same-length-3 c = c .before .before .put-four3 .kept .0
+same-length-3 c = c .before .before .put-five3 .kept .0
 
 returns-7 : tie.Need-returns-7
 unfolding countsOf
-returns-7 c = rw (c .before .before .before .before .before .outcome3 .given .1) (c .before .before .put-four3 .ensures)
+returns-7 c = rw (c .before .before .before .before .before .outcome3 .given .1) (c .before .before .put-five3 .ensures)
 
 pub put-counts-spec : {M : Type 1} → statement M
-put-counts-spec = tie.close (tie.spec (λ c. search needs) (λ c. search needs) (λ c. search needs) (λ c. search needs) put-four-requires (λ c. search needs) put-four-requires-2 (λ c. search needs) (λ c. search needs) put-four-requires-3 returns returns-2 returns-3 same-length returns-4 same-length-2 returns-5 returns-6 same-length-3 returns-7)
+put-counts-spec = tie.close (tie.spec (λ c. search needs) (λ c. search needs) (λ c. search needs) (λ c. search needs) put-five-requires (λ c. search needs) put-five-requires-2 (λ c. search needs) (λ c. search needs) put-five-requires-3 returns returns-2 returns-3 same-length returns-4 same-length-2 returns-5 returns-6 same-length-3 returns-7)

@@ -5,7 +5,7 @@ use lib.Ieee.{binary32}
 use Rattle.lines.specs.Lines.{lineOf}
 use Rattle.lines.specs.Text.{decimalOf}
 use Rattle.lines.proofs.Puts.{then, within, decimal-length}
-use Rattle.lines.proofs.Lengths.{floats-length, four-length}
+use Rattle.lines.proofs.Lengths.{floats-length, five-length}
 use Rattle.lines.proofs.line.put_line.Statement.{statement}
 use Rattle.lines.proofs.line.put_line.Tie as tie
 
@@ -25,7 +25,7 @@ put-counts-requires : tie.Need-put-counts-requires
 put-counts-requires c κs = omega (arith, within 20 (c .before .before .before .before .before .before .before .before .before .before .before .before .before .before .before .before .put-decimal .ensures) (decimal-length _ _), c .before .before .before .before .before .before .before .before .before .before .before .before .before .before .before .before .put-decimal .kept .0, c .before .before .before .before .before .before .before .before .before .before .before .before .put-byte .ensures .place, c .before .before .before .before .before .before .before .before .before .before .before .before .put-byte .kept .0, c .before .before .before .before .before .before .before .put-byte2 .ensures .place, c .before .before .before .before .before .before .before .put-byte2 .kept .0, within 81 (c .before .before .before .put-floats .ensures) (floats-length binary32 _), c .before .before .before .put-floats .kept .0)
 
 put-byte-requires-3 : tie.Need-put-byte-requires-3
-put-byte-requires-3 c κs = omega (arith, within 20 (c .before .before .before .before .before .before .before .before .before .before .before .before .before .before .before .before .before .before .before .before .put-decimal .ensures) (decimal-length _ _), c .before .before .before .before .before .before .before .before .before .before .before .before .before .before .before .before .before .before .before .before .put-decimal .kept .0, c .before .before .before .before .before .before .before .before .before .before .before .before .before .before .before .before .put-byte .ensures .place, c .before .before .before .before .before .before .before .before .before .before .before .before .before .before .before .before .put-byte .kept .0, c .before .before .before .before .before .before .before .before .before .before .before .put-byte2 .ensures .place, c .before .before .before .before .before .before .before .before .before .before .before .put-byte2 .kept .0, within 81 (c .before .before .before .before .before .before .before .put-floats .ensures) (floats-length binary32 _), c .before .before .before .before .before .before .before .put-floats .kept .0, within 84 (c .before .before .before .put-counts .ensures) (four-length _), c .before .before .before .put-counts .kept .0)
+put-byte-requires-3 c κs = omega (arith, within 20 (c .before .before .before .before .before .before .before .before .before .before .before .before .before .before .before .before .before .before .before .before .put-decimal .ensures) (decimal-length _ _), c .before .before .before .before .before .before .before .before .before .before .before .before .before .before .before .before .before .before .before .before .put-decimal .kept .0, c .before .before .before .before .before .before .before .before .before .before .before .before .before .before .before .before .put-byte .ensures .place, c .before .before .before .before .before .before .before .before .before .before .before .before .before .before .before .before .put-byte .kept .0, c .before .before .before .before .before .before .before .before .before .before .before .put-byte2 .ensures .place, c .before .before .before .before .before .before .before .before .before .before .before .put-byte2 .kept .0, within 81 (c .before .before .before .before .before .before .before .put-floats .ensures) (floats-length binary32 _), c .before .before .before .before .before .before .before .put-floats .kept .0, within 105 (c .before .before .before .put-counts .ensures) (five-length _), c .before .before .before .put-counts .kept .0)
 
 same-length : tie.Need-same-length
 same-length c = c .before .before .put-byte3 .kept .0 ∙ c .before .before .before .before .before .before .put-counts .kept .0 ∙ c .before .before .before .before .before .before .before .before .before .before .put-floats .kept .0 ∙ c .before .before .before .before .before .before .before .before .before .before .before .before .before .before .put-byte2 .kept .0 ∙ c .before .before .before .before .before .before .before .before .before .before .before .before .before .before .before .before .before .before .before .put-byte .kept .0 ∙ c .before .before .before .before .before .before .before .before .before .before .before .before .before .before .before .before .before .before .before .before .before .before .before .put-decimal .kept .0

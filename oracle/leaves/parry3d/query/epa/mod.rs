@@ -29,6 +29,7 @@ pub struct Counts {
     pub faces_made: usize,
     pub faces_live: usize,
     pub most_edges: usize,
+    pub missed: usize,
 }
 
 /// The branch by which a run left. After a panic or a full store it says only how far the

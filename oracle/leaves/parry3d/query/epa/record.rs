@@ -32,6 +32,7 @@ impl Polytope for EPA {
             faces_made: self.faces.len(),
             faces_live: self.faces.iter().filter(|face| !face.deleted).count(),
             most_edges: self.silhouette.most(),
+            missed: self.missed,
         }
     }
 }
