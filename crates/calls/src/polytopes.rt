@@ -1,6 +1,6 @@
 // The polytope: function 74, of a simplex, the pose of the second shape, two shapes, and seven lists, each as its place among the arguments
 // and its length: vertices, ids, floats, deleted, edges, heap_ids, heap_keys. After the answer (the way out, in the order below, two points
-// and a normal) come the four counts and the lists.
+// and a normal) come the five counts and the lists.
 ghost use Prim.Native.Nat.{_≤_};
 use crate::answers::Answer;
 use crate::answers::of_vectors;

@@ -328,7 +328,7 @@ module _ (m : Mesh) (N : ℕ) (h : NeighboursIn N N (m .ids)) where
 
 -- ---- the lookups that miss
 
-misses-one : (a : Lookup) → misses a ≤ 1
+pub misses-one : (a : Lookup) → misses a ≤ 1
 misses-one (FoundAt k) = omega arith
 misses-one Missing = omega arith
 
