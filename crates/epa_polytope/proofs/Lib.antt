@@ -16,6 +16,7 @@ pub mod Start
 pub mod Lengths
 pub mod Rule
 pub mod Passes
+pub mod PlainWalks
 pub mod Missed
 pub mod Counted
 pub mod Panics

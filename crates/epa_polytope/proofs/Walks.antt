@@ -16,7 +16,7 @@ use Rattle.epa_polytope.proofs.Basics.{EdgesIn, edges-put, live-delete}
 use Rattle.epa_polytope.proofs.Lists.{next-two}
 use Rattle.epa_polytope.proofs.Places.{stays, after, one-set}
 
-zeros-set : (d : List ℕ) (f : ℕ) → getD d f 1 ≡ 0 → zeros d ≡ suc (zeros (set d f 1))
+pub zeros-set : (d : List ℕ) (f : ℕ) → getD d f 1 ≡ 0 → zeros d ≡ suc (zeros (set d f 1))
 unfolding zeros
 zeros-set [] f h = omega arith
 zeros-set (zero ∷ d) zero h = omega arith
@@ -393,7 +393,7 @@ module _ (m : Mesh) (s : Walked) (q : Question) where
       unfolding ask
       walk-edge h = rw (walk-step m s q, e, eq-eqb _ _ z, h)
 
-      walk-seen : m .seen q ≡ true → walk m (walk m (entered m s q) (facing (m .ids) (q .face) ((q .corner + 2) % 3))) (facing (m .ids) (q .face) (q .corner)) ≡ walk m s q
+      pub walk-seen : m .seen q ≡ true → walk m (walk m (entered m s q) (facing (m .ids) (q .face) ((q .corner + 2) % 3))) (facing (m .ids) (q .face) (q .corner)) ≡ walk m s q
       unfolding ask
       walk-seen h = rw (walk-step m s q, e, eq-eqb _ _ z, h)
 

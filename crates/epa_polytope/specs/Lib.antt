@@ -2,6 +2,7 @@
 pub mod Stores
 pub mod Face
 pub mod Silhouette
+pub mod PlainWalk
 pub mod Steps
 pub mod Start
 pub mod Expansion
