@@ -17,6 +17,7 @@ pub mod Lengths
 pub mod Rule
 pub mod Passes
 pub mod PlainWalks
+pub mod PlainPasses
 pub mod Missed
 pub mod Counted
 pub mod Panics

@@ -196,7 +196,7 @@ pub record Reached (N : ℕ) (s t : Walked) : Type 0 where
   pub ofEdges : Untouched (recordedOf (edgeRoom t) (t .answer) * 2) (t .edges) (s .edges)
 
 -- one walk after another
-reached-after : {N : ℕ} {s t u : Walked} → Reached N s t → Reached N t u → Reached N s u
+pub reached-after : {N : ℕ} {s t u : Walked} → Reached N s t → Reached N t u → Reached N s u
 reached-after p q = record {
   sameRoom = q .sameRoom ∙ p .sameRoom;
   more = omega (arith, p .more, q .more);
@@ -209,7 +209,7 @@ module _ (m : Mesh) (N : ℕ) (h : NeighboursIn N N (m .ids)) where
   on-asked : (q : Question) → Asked N q → Asked N (facing (m .ids) (q .face) ((q .corner + 2) % 3)) × Asked N (facing (m .ids) (q .face) (q .corner))
   on-asked q y = (asked-facing (m .ids) N h (q .face) ((q .corner + 2) % 3) (y .faceIn) (omega arith), asked-facing (m .ids) N h (q .face) (q .corner) (y .faceIn) (y .cornerIn))
 
-  asked-noted : (s : Walked) (n : ℕ) (q : Question) (R : ℕ) → edgeRoom s ≡ R → askedOf R (noted s n q .answer) + liveTo N (noted s n q .deleted) ≤ n + liveTo N (s .deleted) + 1
+  pub asked-noted : (s : Walked) (n : ℕ) (q : Question) (R : ℕ) → edgeRoom s ≡ R → askedOf R (noted s n q .answer) + liveTo N (noted s n q .deleted) ≤ n + liveTo N (s .deleted) + 1
   asked-noted s n q R e = by (ltb n (edgeRoom s)) refl
     where
       by : (b : Bool) → ltb n (edgeRoom s) ≡ b → askedOf R (notedIf b s n q .answer) + liveTo N (notedIf b s n q .deleted) ≤ n + liveTo N (s .deleted) + 1
@@ -244,7 +244,7 @@ module _ (m : Mesh) (N : ℕ) (h : NeighboursIn N N (m .ids)) where
       q
       y
 
-  edges-noted : (s : Walked) (n : ℕ) (q : Question) → Asked N q → EdgesIn N n (s .edges) → Recorded N (noted s n q) (noted s n q .answer)
+  pub edges-noted : (s : Walked) (n : ℕ) (q : Question) → Asked N q → EdgesIn N n (s .edges) → Recorded N (noted s n q) (noted s n q .answer)
   edges-noted s n q y p = by (ltb n (length (s .edges) / 2))
     where
       by : (b : Bool) → Recorded N (notedIf b s n q) (notedIf b s n q .answer)
@@ -266,7 +266,7 @@ module _ (m : Mesh) (N : ℕ) (h : NeighboursIn N N (m .ids)) where
       as-deleted s q (Done n) i = i
       as-deleted s q NoRoom i = tt
 
-  reached-noted : (s : Walked) (n : ℕ) (q : Question) → s .answer ≡ Done n → recordedOf (edgeRoom s) (s .answer) ≤ edgeRoom s → Reached N s (noted s n q)
+  pub reached-noted : (s : Walked) (n : ℕ) (q : Question) → s .answer ≡ Done n → recordedOf (edgeRoom s) (s .answer) ≤ edgeRoom s → Reached N s (noted s n q)
   reached-noted s n q e l = by (ltb n (edgeRoom s)) refl
     where
       was : recordedOf (edgeRoom s) (s .answer) ≡ n
@@ -332,6 +332,14 @@ pub misses-one : (a : Lookup) → misses a ≤ 1
 misses-one (FoundAt k) = omega arith
 misses-one Missing = omega arith
 
+-- an edge misses none, and deletes none
+pub misses-noted : (N : ℕ) (s : Walked) (n : ℕ) (q : Question) → noted s n q .missed + 2 * liveTo N (noted s n q .deleted) ≤ s .missed + 2 * liveTo N (s .deleted)
+misses-noted N s n q = by (ltb n (length (s .edges) / 2))
+  where
+    by : (b : Bool) → notedIf b s n q .missed + 2 * liveTo N (notedIf b s n q .deleted) ≤ s .missed + 2 * liveTo N (s .deleted)
+    by true = omega arith
+    by false = omega arith
+
 -- a lookup that misses is one more, if any
 pub one-more : (ids : List ℕ) (f k n : ℕ) → withMissed ids f k n ≤ n + 1
 unfolding withMissed
@@ -343,19 +351,12 @@ module _ (m : Mesh) (N : ℕ) (h : NeighboursIn N N (m .ids)) where
   misses-few s q y = walk-law m (Asked N) (λ s s'. s' .missed + 2 * liveTo N (s' .deleted) ≤ s .missed + 2 * liveTo N (s .deleted))
       (on-asked m N h)
       (λ s. omega arith)
-      (λ s n q y e. misses-noted s n q)
+      (λ s n q y e. misses-noted N s n q)
       (λ s s1 s2 q y z p1 p2.
       omega (arith, p1, p2, live-delete N (s .deleted) (q .face) (y .faceIn) z, one-more (m .ids) (q .face) ((q .corner + 2) % 3) (s .missed), one-more (m .ids) (q .face) (q .corner) (withMissed (m .ids) (q .face) ((q .corner + 2) % 3) (s .missed))))
       s
       q
       y
-    where
-      misses-noted : (s : Walked) (n : ℕ) (q : Question) → noted s n q .missed + 2 * liveTo N (noted s n q .deleted) ≤ s .missed + 2 * liveTo N (s .deleted)
-      misses-noted s n q = by (ltb n (length (s .edges) / 2))
-        where
-          by : (b : Bool) → notedIf b s n q .missed + 2 * liveTo N (notedIf b s n q .deleted) ≤ s .missed + 2 * liveTo N (s .deleted)
-          by true = omega arith
-          by false = omega arith
 
   pub misses-pass : (s : Walked) (a b c : Question) → Asked N a → Asked N b → Asked N c → pass m s a b c .missed + 2 * liveTo N (pass m s a b c .deleted) ≤ s .missed + 2 * liveTo N (s .deleted)
   unfolding pass
