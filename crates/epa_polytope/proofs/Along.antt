@@ -8,7 +8,7 @@ use lib.ListN.{length, getD, set, length-set}
 use lib.Dec.{eqb, ltb}
 use borrow.Author.Tests.{ltb-true, ltb-false}
 use Rattle.epa_polytope.specs.Stores.{cornerIn, neighbourIn}
-use Rattle.epa_polytope.specs.Silhouette.{Mesh, Walked, WalkAnswer, Done, NoRoom, Question, zeros, nextCcwPtId, lookup, facing, withMissed, edgePut, notedIf, noted, askIf, ask, walkIn, walk, pass}
+use Rattle.epa_polytope.specs.Silhouette.{Mesh, Walked, WalkAnswer, Done, NoRoom, Question, zeros, nextCcwPtId, lookup, facing, withMissed, entered, edgePut, notedIf, noted, askIf, ask, walkIn, walk, pass}
 use Rattle.epa_polytope.specs.Bounds.{NeighboursIn}
 use Rattle.epa_polytope.specs.Same.{Alike}
 use Rattle.epa_polytope.proofs.Walks.{enough, Asked, asked-facing}
@@ -52,7 +52,7 @@ full-stays (suc n) m s q e = by (s .answer) (eqb (getD (s .deleted) (q .face) 1)
     by (Done k) d v x = let z : _≡_ {A = ℕ} 0 1 = cc in let y : ⊥ = omega arith in absurd y
 
 -- an edge more, in both
-alike-edge : (n : ℕ) (l k : List ℕ) (q : Question) → n < length l / 2 → n < length k / 2 → Alike (n * 2) l k → Alike ((n + 1) * 2) (edgePut l n q) (edgePut k n q)
+pub alike-edge : (n : ℕ) (l k : List ℕ) (q : Question) → n < length l / 2 → n < length k / 2 → Alike (n * 2) l k → Alike ((n + 1) * 2) (edgePut l n q) (edgePut k n q)
 alike-edge n l k q hl hk a =
     let e : suc (suc (n * 2)) ≡ (n + 1) * 2 = omega arith in
     let one : suc (n * 2) ≡ n * 2 + 1 = omega arith in
@@ -61,7 +61,7 @@ alike-edge n l k q hl hk a =
     subst (λ (x : ℕ). Alike x (edgePut l n q) (edgePut k n q)) e
     (subst (λ (x : ℕ). Alike (suc (suc (n * 2))) (set (set l (n * 2) (q .face)) x (q .corner)) (set (set k (n * 2) (q .face)) x (q .corner))) one c)
 
-edge-length : (n : ℕ) (l : List ℕ) (q : Question) → length (edgePut l n q) ≡ length l
+pub edge-length : (n : ℕ) (l : List ℕ) (q : Question) → length (edgePut l n q) ≡ length l
 edge-length n l q = length-set (set l (n * 2) (q .face)) (n * 2 + 1) (q .corner) ∙ length-set l (n * 2) (q .face)
 
 alike-next : (N : ℕ) (l k : List ℕ) (f p : ℕ) → f < N → Alike (N * 6) l k → nextCcwPtId l f p ≡ nextCcwPtId k f p
@@ -93,7 +93,7 @@ module _ (N R R' : ℕ) (m m' : Mesh) (h : NeighboursIn N N (m .ids)) (ids : Ali
   abbrev Pair : Walked → Walked → Type 0
   Pair s t = Along N R R' s t
 
-  along-noted : (n : ℕ) (s t : Walked) (q : Question) → Together N R R' n s t → Pair (noted s n q) (noted t n q)
+  pub along-noted : (n : ℕ) (s t : Walked) (q : Question) → Together N R R' n s t → Pair (noted s n q) (noted t n q)
   along-noted n s t q g = by (ltb n (length (s .edges) / 2)) (ltb n (length (t .edges) / 2)) refl refl
     where
       by : (b d : Bool) → ltb n (length (s .edges) / 2) ≡ b → ltb n (length (t .edges) / 2) ≡ d → Pair (notedIf b s n q) (notedIf d t n q)
@@ -124,6 +124,22 @@ module _ (N R R' : ℕ) (m m' : Mesh) (h : NeighboursIn N N (m .ids)) (ids : Ali
             room' = ap (λ (k : ℕ). k / 2) (edge-length n (t .edges) q) ∙ g .room';
           })
 
+  -- a face that is seen is deleted, and looked up, in both
+  pub along-entered : (n : ℕ) (s t : Walked) (q : Question) → Asked N q → Together N R R' n s t → Together N R R' n (entered m s q) (entered m' t q)
+  along-entered n s t q y g =
+      let once = alike-missed N (m .ids) (m' .ids) ids h (q .face) ((q .corner + 2) % 3) (y .faceIn) (omega arith) (g .missed) in
+      record {
+        answer = g .answer;
+        answer' = g .answer';
+        few = g .few;
+        few' = g .few';
+        missed = alike-missed N (m .ids) (m' .ids) ids h (q .face) (q .corner) (y .faceIn) (y .cornerIn) once;
+        deleted = alike-set N (s .deleted) (t .deleted) (q .face) 1 (g .deleted);
+        edges = g .edges;
+        room = g .room;
+        room' = g .room';
+      }
+
   along-ask : (go go' : Walked → Question → Walked) → ((s t : Walked) (q : Question) → Asked N q → Pair s t → Pair (go s q) (go' t q))
       → (k : ℕ) (s t : Walked) (q : Question) → Asked N q → Together N R R' k s t → Pair (ask m go s q) (ask m' go' t q)
   unfolding ask
@@ -141,18 +157,7 @@ module _ (N R R' : ℕ) (m m' : Mesh) (h : NeighboursIn N N (m .ids)) (ids : Ali
           let e2 = alike-facing N (m .ids) (m' .ids) ids h (q .face) (q .corner) (y .faceIn) (y .cornerIn) in
           let y1 = asked-facing (m .ids) N h (q .face) ((q .corner + 2) % 3) (y .faceIn) c2 in
           let y2 = asked-facing (m .ids) N h (q .face) (q .corner) (y .faceIn) (y .cornerIn) in
-          let once = alike-missed N (m .ids) (m' .ids) ids h (q .face) ((q .corner + 2) % 3) (y .faceIn) c2 (g .missed) in
-          rw (← e1, ← e2) (law _ _ _ y2 (law _ _ _ y1 (both k (record {
-            answer = g .answer;
-            answer' = g .answer';
-            few = g .few;
-            few' = g .few';
-            missed = alike-missed N (m .ids) (m' .ids) ids h (q .face) (q .corner) (y .faceIn) (y .cornerIn) once;
-            deleted = alike-set N (s .deleted) (t .deleted) (q .face) 1 (g .deleted);
-            edges = g .edges;
-            room = g .room;
-            room' = g .room';
-          }))))
+          rw (← e1, ← e2) (law _ _ _ y2 (law _ _ _ y1 (both k (along-entered k s t q y g))))
 
       given : (a b : WalkAnswer) (d e v x : Bool) → a ≡ Done k → b ≡ Done k → d ≡ e → v ≡ x → Pair (askIf a d v m go s q) (askIf b e x m' go' t q)
       given a b d e v x ea eb ed ev = rw (ea, eb, ed, ev) (by e x)

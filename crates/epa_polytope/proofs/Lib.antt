@@ -25,6 +25,7 @@ pub mod Bounded
 pub mod Demand3
 pub mod Alike
 pub mod Along
+pub mod PlainAlong
 pub mod Twins
 pub mod TwinIterations
 pub mod TwinRuns

@@ -180,7 +180,7 @@ module _ (m : Mesh) (N : ℕ) (h : NeighboursIn N N (m .ids)) (w : Walked) (l0 :
       }
 
   -- one in hand goes in, or finds no place
-  steady-in : (k : ℕ) (s : Walking) (q : Question) → Asked N q → At (suc k) s → At k (putIn s q)
+  pub steady-in : (k : ℕ) (s : Walking) (q : Question) → Asked N q → At (suc k) s → At k (putIn s q)
   unfolding putIn
   steady-in k s q y st = by (s .short) (ltb (s .held) (length (s .pending) / 2)) refl refl
     where
