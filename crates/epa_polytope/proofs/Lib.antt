@@ -44,6 +44,7 @@ pub mod Expanding
 pub mod Visiting
 pub mod Popping
 pub mod Looping
+pub mod PlainLoop
 pub mod DistancesWalks
 pub mod DistancesPops
 pub mod DistancesRuns

@@ -16,8 +16,8 @@ use Rattle.epa_polytope.specs.Silhouette.{Question, WalkAnswer, Done, No
 use Rattle.epa_polytope.specs.PlainWalk.{Walking, walking, putIf, putIn, questionAt, without, answerIf, answerQuestion, turn, turns, plainWalk, plainPass}
 use Rattle.epa_polytope.specs.Bounds.{NeighboursIn}
 use Rattle.epa_polytope.specs.Rule.{Zeroed, Returned}
-use Rattle.epa_polytope.proofs.Basics.{live-delete}
-use Rattle.epa_polytope.proofs.Places.{after, one-set, reads-set, used, given-back}
+use Rattle.epa_polytope.proofs.Basics.{no-edges, live-delete}
+use Rattle.epa_polytope.proofs.Places.{stays, after, one-set, reads-set, used, given-back}
 use Rattle.epa_polytope.proofs.Walks.{Asked, asked-facing, askedOf, recordedOf, edgeRoom, Recorded, Reached, reached-after, reached-noted, noted-deletes-none, asked-noted, edges-noted, misses-noted, one-more}
 use Rattle.epa_polytope.proofs.PlainWalks.{turn-short, turn-full, turn-none, turn-takes}
 
@@ -37,8 +37,11 @@ other-stays l h a b i e =
 put-is : (l : List ℕ) (h : ℕ) (q : Question) → h < length l / 2 → questionAt (edgePut l h q) h ≡ q
 put-is l h q le =
     let first = set l (h * 2) (q .face) in
-    rw (getD-set-same first (h * 2 + 1) (q .corner) 0 (omega (arith, length-set l (h * 2) (q .face))), getD-set-other first (h * 2 + 1) (h * 2) (q .corner) 0 (λ z. omega arith),
-    getD-set-same l (h * 2) (q .face) 0 (omega arith))
+    rw (
+      getD-set-same first (h * 2 + 1) (q .corner) 0 (omega (arith, length-set l (h * 2) (q .face))),
+      getD-set-other first (h * 2 + 1) (h * 2) (q .corner) 0 (λ z. omega arith),
+      getD-set-same l (h * 2) (q .face) 0 (omega arith),
+    )
 
 -- where the last of h + 1 comes out, its places are given back
 comes-back : (l l0 : List ℕ) (h m : ℕ) → suc h ≤ m → Returned 0 (suc h * 2) (m * 2) l l0 → Returned 0 (h * 2) (m * 2) (without l h) l0
@@ -265,3 +268,45 @@ module _ (m : Mesh) (N : ℕ) (h : NeighboursIn N N (m .ids)) (w : Walked) (l0 :
   pub steady-pass : (s : Walking) (a b c : Question) → Asked N a → Asked N b → Asked N c → At 3 s → At 0 (plainPass m s a b c)
   unfolding plainPass plainWalk
   steady-pass s a b c ya yb yc st = steady-turns _ _ (steady-in 0 _ a ya (steady-in 1 _ b yb (steady-in 2 s c yc st)))
+
+-- ---- from a pass's beginning: no edge and no question, over a list l whose places above the mark `top` are as in l0
+
+module _ (m : Mesh) (N : ℕ) (h : NeighboursIn N N (m .ids)) (w : Walked) (begins : w .answer ≡ Done 0) (l l0 : List ℕ) (top : ℕ)
+    (places : length l ≡ length l0) (topFits : top ≤ length l0 / 2) (given : Returned 0 0 (top * 2) l l0) where
+  -- the most questions, edges and live faces together
+  abbrev B : ℕ
+  B = liveTo N (w .deleted) + 3
+
+  pub steady-start : Steady N w l0 B 3 (walking w l 0 false)
+  steady-start = record {
+    asked = λ i less. let z : ⊥ = omega arith in absurd z;
+    few = omega (arith, ap (askedOf (edgeRoom w)) begins);
+    missed = omega arith;
+    fewer = omega arith;
+    recorded = subst (λ (a : WalkAnswer). Recorded N w a) (sym begins) (no-edges N (w .edges));
+    reached = record { sameRoom = refl; more = omega arith; fits = omega (arith, ap (recordedOf (edgeRoom w)) begins); ofDeleted = stays N (w .deleted); ofEdges = stays _ (w .edges) };
+    marks = refl;
+    places = places;
+    fits = omega arith;
+    roomy = λ b. refl;
+    top = top;
+    heldBelow = omega arith;
+    topFits = topFits;
+    given = given;
+  }
+
+  module _ (a b c : Question) (ya : Asked N a) (yb : Asked N b) (yc : Asked N c) where
+    -- OF THE PENDING QUESTIONS no more than three and the faces deleted so far in the pass are ever held: after any number of turns, and so, since a put adds one and never more than the second of two
+    -- puts leaves, between any two puts
+    pub held-few : (n : ℕ) → let s = turns n m (putIn (putIn (putIn (walking w l 0 false) c) b) a) in s .held + liveTo N (s .walk .deleted) ≤ 3 + liveTo N (w .deleted)
+    held-few n =
+        let st = steady-turns m N h w l0 B n _ (steady-in m N h w l0 B 0 _ a ya (steady-in m N h w l0 B 1 _ b yb (steady-in m N h w l0 B 2 _ c yc steady-start))) in
+        omega (arith, st .few)
+
+    -- so that a store of so many places is never refused
+    pub never-short : B ≤ length l0 / 2 → plainPass m (walking w l 0 false) a b c .short ≡ false
+    never-short room = steady-pass m N h w l0 B (walking w l 0 false) a b c ya yb yc steady-start .roomy room
+
+    -- and the store obeys document 01's rule: what is held stands in the first places, those once used above them are zero, and the others as they were lent
+    pub rule-pending : let s = plainPass m (walking w l 0 false) a b c in Returned 0 (s .held * 2) (steady-pass m N h w l0 B (walking w l 0 false) a b c ya yb yc steady-start .top * 2) (s .pending) l0
+    rule-pending = steady-pass m N h w l0 B (walking w l 0 false) a b c ya yb yc steady-start .given

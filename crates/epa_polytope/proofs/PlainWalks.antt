@@ -59,7 +59,7 @@ seen-less m s q q1 q2 z =
     omega (arith, put-one s2 q1, put-one s1 q2, ap live (put-walks-not s2 q1), ap live (put-walks-not s1 q2), zeros-set (s .walk .deleted) (q .face) z)
 
 -- an answer adds nothing
-answer-less : (m : Mesh) (s : Walking) (n : ℕ) (q : Question) → potential (answerQuestion m s n q) ≤ potential s
+pub answer-less : (m : Mesh) (s : Walking) (n : ℕ) (q : Question) → potential (answerQuestion m s n q) ≤ potential s
 unfolding answerQuestion
 answer-less m s n q = by (eqb (getD (s .walk .deleted) (q .face) 1) 0) (m .seen q) refl
   where
@@ -192,8 +192,11 @@ below-stays l h a b (suc j) le =
 put-question : (l : List ℕ) (h : ℕ) (q : Question) → h < length l / 2 → questionAt (edgePut l h q) h ≡ q
 put-question l h q le =
     let first = set l (h * 2) (q .face) in
-    rw (getD-set-same first (h * 2 + 1) (q .corner) 0 (omega (arith, length-set l (h * 2) (q .face))), getD-set-other first (h * 2 + 1) (h * 2) (q .corner) 0 (λ z. omega arith),
-    getD-set-same l (h * 2) (q .face) 0 (omega arith))
+    rw (
+      getD-set-same first (h * 2 + 1) (q .corner) 0 (omega (arith, length-set l (h * 2) (q .face))),
+      getD-set-other first (h * 2 + 1) (h * 2) (q .corner) 0 (λ z. omega arith),
+      getD-set-same l (h * 2) (q .face) 0 (omega arith),
+    )
 
 put-held : (l : List ℕ) (h : ℕ) (q : Question) → h < length l / 2 → heldFrom (edgePut l h q) (h + 1) ≡ q ∷ heldFrom l h
 unfolding heldFrom

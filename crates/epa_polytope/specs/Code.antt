@@ -1,11 +1,12 @@
 -- What the functions of the code do, ask of their caller and answer one another that has no name of its own in the run. Definitions only; who reads the public contracts need not read them.
-use mathlib.Core.Bool.{Bool, not}
+use mathlib.Core.Bool.{Bool, true, not, _||_}
 use mathlib.Core.List.{List}
 use mathlib.Core.Option.{Option, none, some}
 use mathlib.Core.Path.{_≡_}
 use Prim.Native.Nat.{ℕ, _+_, _≤_, min}
 use lib.Ieee.{Float, Format}
 use lib.ListN.{length, getD}
+use lib.Dec.{eqb}
 use Rattle.heap.specs.Heap.{Entry}
 use Rattle.number.specs.Constants.{largest}
 use Rattle.shape.specs.declared.vertex.Vertex.{Vertex}
@@ -17,6 +18,9 @@ use Rattle.epa_polytope.specs.declared.types.Begun.the-variants as Begun
 use Rattle.epa_polytope.specs.declared.types.Begun.{Begun}
 use Rattle.epa_polytope.specs.declared.types.Best.{Best}
 use Rattle.epa_polytope.specs.declared.types.End.the-variants.{Panics}
+use Rattle.epa_polytope.specs.declared.types.PlainSoFar.{PlainSoFar}
+use Rattle.epa_polytope.specs.declared.types.WalkAnswer.{WalkAnswer}
+use Rattle.epa_polytope.specs.declared.types.WalkAnswer.the-variants.{Done, NoRoom}
 use Rattle.epa_polytope.specs.declared.types.Made.{Made}
 use Rattle.epa_polytope.specs.declared.types.MaybeFaceId.the-variants as MaybeFaceId
 use Rattle.epa_polytope.specs.declared.types.MaybeFaceId.{MaybeFaceId}
@@ -68,6 +72,16 @@ simplexVertices w x = stopIf (not (isSimplex x)) (Panics NotASimplex) >> startVe
 abbrev pub readyOf : Step → Float → Begun
 readyOf (Onward c) tol = Begun.Ready tol c
 readyOf (Ended e c) tol = Begun.Ended e c
+
+-- ---- the plain walk
+
+-- nothing is left to do: no room was found, or no question is held
+abbrev pub restsBy : WalkAnswer → Bool → Bool → Bool
+restsBy NoRoom short empty = true
+restsBy (Done n) short empty = short || empty
+
+abbrev pub restsOf : PlainSoFar → Bool
+restsOf r = restsBy (r .answer) (r .short) (eqb (r .held) 0)
 
 -- ---- a live face is popped
 

@@ -5,7 +5,8 @@ use mathlib.Core.List.{List}
 use mathlib.Core.Bool.{Bool, true, false}
 use lib.ListN.{length, getD, set}
 use lib.Dec.{eqb, ltb}
-use Rattle.epa_polytope.specs.Silhouette.{Question, WalkAnswer, Done, NoRoom, Mesh, Walked, facing, edgePut, noted, entered, zeros}
+use Rattle.epa_polytope.specs.Silhouette.{Question, WalkAnswer, Done, NoRoom, Mesh, Walked, walked, facing, edgePut, noted, entered, zeros}
+pub use Rattle.epa_polytope.specs.declared.types.PlainSoFar.{PlainSoFar}
 
 -- what a plain walk changes: what the recursive one does, and the pending questions, two numbers each, of which so many are held; and whether there was no place for one
 pub record Walking : Type 0 where
@@ -16,6 +17,10 @@ pub record Walking : Type 0 where
 
 abbrev pub walking : Walked → List ℕ → ℕ → Bool → Walking
 walking walk pending held short = record { walk = walk; pending = pending; held = held; short = short }
+
+-- by what the code answers
+abbrev pub walkingBy : List ℕ → List ℕ → List ℕ → PlainSoFar → Walking
+walkingBy deleted edges pending r = walking (walked deleted edges (r .missed) (r .answer)) pending (r .held) (r .short)
 
 -- ---- a question goes in
 

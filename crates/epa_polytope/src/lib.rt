@@ -15,6 +15,7 @@ pub use types::Lost;
 pub use types::Made;
 pub use types::MaybeFaceId;
 pub use types::MaybeVertex;
+pub use types::PlainSoFar;
 pub use types::Popped;
 pub use types::Question;
 pub use types::Site;

@@ -34,6 +34,14 @@ pub struct WalkSoFar {
     pub missed: usize,
 }
 
+// How far a plain walk has come: the same, the questions that are held, and whether there was no place for one.
+pub struct PlainSoFar {
+    pub answer: WalkAnswer,
+    pub missed: usize,
+    pub held: usize,
+    pub short: bool,
+}
+
 // What a face is made of, besides the numbers of its corners and neighbours: the normal, the weights of the
 // corners, and whether it holds the projection of the origin (of `Face::new`: `normal`, `bcoords` and `proj_inside`).
 pub struct Made {

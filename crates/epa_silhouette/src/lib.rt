@@ -15,7 +15,13 @@ use epa_stores::set_deleted;
 use epa_stores::set_pair_at;
 
 // An edge is recorded, if there is room.
-fn note(deleted: &[u8], edges: &mut [usize], count: usize, missed: usize, q: Question) -> WalkSoFar
+pub fn note(
+    deleted: &[u8],
+    edges: &mut [usize],
+    count: usize,
+    missed: usize,
+    q: Question,
+) -> WalkSoFar
     ensures { λ r. ⌜ walkedBy (now (deleted .entry)) (now (edges .exit)) r ≡ noted (walked (now (deleted .entry)) (now (edges .entry)) missed (WalkAnswer.Done count)) count q ⌝ }
 {
     if count < edges.len() / 2 {
