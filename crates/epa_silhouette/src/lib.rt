@@ -107,7 +107,8 @@ pub fn pass(
     b: Question,
     c: Question,
 ) -> WalkSoFar
-    ensures { λ r. ⌜ Reads (λ l. pass (meshOf single l point) (walked (now (deleted .entry)) (now (edges .entry)) missed (WalkAnswer.Done 0)) a b c) (walkedBy (now (deleted .exit)) (now (edges .exit)) r)
+    ensures { λ r. ⌜ Reads (λ l. pass (meshOf single l point) (walked (now (deleted .entry)) (now (edges .entry)) missed (WalkAnswer.Done 0)) a b c)
+        (walkedBy (now (deleted .exit)) (now (edges .exit)) r)
         (λ k. withVertices (now (vertices .entry)) (withFaceIds (now (ids .entry)) (withFaceFloats (now (floats .entry)) k))) ⌝ }
 {
     let start = WalkSoFar {
