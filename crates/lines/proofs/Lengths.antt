@@ -71,10 +71,10 @@ pub line-length : (f : Format) (n : ℕ) (o : Outcome) → length (lineOf f n o)
 unfolding lineOf
 line-length f n o = simp length-append (omega (arith, number-length n, floats-length f o, five-length o))
 
--- a place with 209 bytes after it has room for any line of f32
-pub line-fits : (out : List ℕ) (at n : ℕ) (o : Outcome) → at + 209 ≤ length out → placeOf out at (lineOf binary32 n o) .answer ≡ Next (at + length (lineOf binary32 n o))
+-- a place with so many bytes after it, 209 of f32, has room for any line
+pub line-fits : (f : Format) (out : List ℕ) (at n : ℕ) (o : Outcome) → at + (128 + 9 * floatSize f) ≤ length out → placeOf out at (lineOf f n o) .answer ≡ Next (at + length (lineOf f n o))
 unfolding placeOf
-line-fits out at n o h = rw (le-leb (at + length (lineOf binary32 n o)) (length out) (omega (arith, line-length binary32 n o)))
+line-fits f out at n o h = rw (le-leb (at + length (lineOf f n o)) (length out) (omega (arith, line-length f n o)))
 
 pub bad-length : (n : ℕ) → length (badLine n) ≤ 25
 unfolding badLine
