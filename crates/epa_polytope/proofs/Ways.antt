@@ -1,12 +1,11 @@
 -- Ways out that no run takes: 'stuck' never decides, and the first peek finds a face. Assumes nothing.
 use mathlib.Core.Path.{_≡_, refl, sym, ap, _∙_}
 use mathlib.Core.Bool.{Bool, true, false, cond, _&&_, _||_}
-use Prim.Native.Nat.{ℕ, zero, suc, _+_, _*_, _/_, _<_}
+use Prim.Native.Nat.{ℕ, zero, suc, _+_, _/_, _<_}
 use native.Mathlib.Omega.{arith}
-use native.Mathlib.Nat.{le-refl}
-use lib.Dec.{ltb}
-use lib.Ieee.{Float, Format, nan, inf, fin, lt, up, down}
-use borrow.Author.Tests.{le-ltb, not-false}
+use lib.Ieee.{Float, Format, lt}
+use borrow.Author.Tests.{not-false}
+use Rattle.number.proofs.Order.{lt-irrefl}
 use Rattle.number.specs.Constants.{epsilon}
 use Rattle.number.specs.Small.{absolute}
 use Rattle.vector.specs.Vector.{_⊖_}
@@ -20,24 +19,12 @@ use Rattle.epa_polytope.proofs.Steps.{Meets, goes, ends, meets-then, me
 
 -- ---- 'stuck'
 
-no-less : (n : ℕ) → ltb n n ≡ false
-no-less n = le-ltb n n (le-refl n)
-
--- no number is less than itself
-pub lt-self : (x : Float) → lt x x ≡ false
-unfolding lt
-lt-self nan = refl
-lt-self (inf true) = refl
-lt-self (inf false) = refl
-lt-self (fin false m e) = no-less (m * up e * down e)
-lt-self (fin true m e) = no-less (m * up e * down e)
-
 and-false : (a b : Bool) → b ≡ false → (a && b) ≡ false
 and-false true b e = e
 and-false false b e = refl
 
 not-below : (c bound : Float) (b : Bool) → lt c bound ≡ b → lt c (cond b c bound) ≡ false
-not-below c bound true e = lt-self c
+not-below c bound true e = lt-irrefl c
 not-below c bound false e = e
 
 cond-bound : (y : Bool) (i : ℕ) (c : Float) (b : Best) → cond y (record { face = i; bound = c; last = b .last }) b .bound ≡ cond y c (b .bound)
