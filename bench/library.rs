@@ -24,9 +24,6 @@ use parry3d::query::epa::Rooms;
 use std::io;
 use std::process::ExitCode;
 
-/// As much as a run can need, so that no push of the unedited text is refused.
-const NO_BOUNDS: Rooms = Rooms { vertices: usize::MAX, edges: usize::MAX, faces: usize::MAX, heap: usize::MAX };
-
 unsafe extern "C" {
     /// The processor time of this process in microseconds: other work beside it counts less than by the wall clock.
     safe fn clock() -> std::ffi::c_long;
@@ -77,7 +74,7 @@ fn time_rust(records: &[Record]) -> u64 {
 
 /// The text without our edits, whose stores grow and whose counts are not kept: shows that the edits cost nothing much.
 fn time_unedited(records: &[Record]) {
-    let mut channel = Channel::<PublishedEpa>::new(NO_BOUNDS);
+    let mut channel = Channel::<PublishedEpa>::new(Rooms::NO_LIMIT);
     print_timed("unedited", records, |record, checksum| add_answer(checksum, &channel.answer(record)));
 }
 

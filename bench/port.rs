@@ -60,6 +60,7 @@ pub struct Room {
     edges: Vec<Edge>,
     heap_ids: Vec<usize>,
     heap_keys: Vec<f32>,
+    pending: Vec<usize>,
 }
 
 impl Default for Room {
@@ -72,6 +73,7 @@ impl Default for Room {
             edges: vec![Edge { face: 0, corner: 0 }; ROOMS.edges],
             heap_ids: vec![0; ROOMS.heap],
             heap_keys: vec![0.0; ROOMS.heap],
+            pending: vec![0; 2 * ROOMS.pending],
         }
     }
 }
@@ -86,6 +88,7 @@ impl Room {
             edges: &mut self.edges,
             heap_ids: &mut self.heap_ids,
             heap_keys: &mut self.heap_keys,
+            pending: &mut self.pending,
         }
     }
 }

@@ -102,7 +102,8 @@ pub enum Certificate {
 }
 
 /// The stores that a run borrows: nine numbers a vertex; of a face six numbers in `ids`, six in `floats` and its deletion
-/// mark; one record an edge; two slices for the heap. A store of several slices is as long as the fewest whole records that one holds.
+/// mark; one record an edge; two slices for the heap; two numbers a pending question of the silhouette's walk. A store of several slices
+/// is as long as the fewest whole records that one holds.
 pub struct Stores<'a> {
     pub vertices: &'a mut [f32],
     pub ids: &'a mut [usize],
@@ -111,6 +112,7 @@ pub struct Stores<'a> {
     pub edges: &'a mut [Edge],
     pub heap_ids: &'a mut [usize],
     pub heap_keys: &'a mut [f32],
+    pub pending: &'a mut [usize],
 }
 
 #[repr(C)]
@@ -157,6 +159,8 @@ unsafe extern "C" {
         heap_ids_length: usize,
         heap_keys: *mut f32,
         heap_keys_length: usize,
+        pending: *mut usize,
+        pending_length: usize,
     ) -> Answer;
     safe fn separation_vote(a: Answer, b: Answer, c: Answer) -> Voted;
     safe fn separation_cast(pos12: Pose, g1: ShapeRecord, g2: ShapeRecord, ray: Ray, max_time: f32) -> Impact;
@@ -195,6 +199,8 @@ pub fn run(pos12: Pose, g1: Shape, g2: Shape, dir: Vector, max_dist: f32, exact:
             s.heap_ids.len(),
             s.heap_keys.as_mut_ptr(),
             s.heap_keys.len(),
+            s.pending.as_mut_ptr(),
+            s.pending.len(),
         )
     }
 }

@@ -5,7 +5,7 @@
 #include <stdio.h>
 #include <string.h>
 
-enum { VERTICES = 105, FACES = 1000, EDGES = 206, HEAP = 1000 };
+enum { VERTICES = 105, FACES = 1000, EDGES = 206, HEAP = 1000, PENDING = 206 };
 
 static float vertices[9 * VERTICES];
 static size_t ids[6 * FACES];
@@ -14,6 +14,7 @@ static uint8_t deleted[FACES];
 static separation_edge edges[EDGES];
 static size_t heap_ids[HEAP];
 static float heap_keys[HEAP];
+static size_t pending[2 * PENDING];
 
 #define LENT(slice) slice, sizeof slice / sizeof slice[0]
 
@@ -24,7 +25,7 @@ static separation_answer run(float along_x)
     separation_pose pose = {0, 0, 0, 1, {along_x, 0, 0.5f}};
     separation_vector dir = {1, 0, 0};
     return separation_run(pose, upper, lower, dir, 10, true, LENT(vertices), LENT(ids), LENT(floats),
-                          LENT(deleted), LENT(edges), LENT(heap_ids), LENT(heap_keys));
+                          LENT(deleted), LENT(edges), LENT(heap_ids), LENT(heap_keys), LENT(pending));
 }
 
 static void print_vector(separation_vector v)

@@ -23,6 +23,7 @@ fn links(along_x: f32) -> Answer {
         edges: &mut [Edge::default(); 206],
         heap_ids: &mut [0; 1000],
         heap_keys: &mut [0.0; 1000],
+        pending: &mut [0; 2 * 206],
     };
     run(pose, upper, lower, vector(1.0, 0.0, 0.0), 10.0, true, &mut stores)
 }

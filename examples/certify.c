@@ -4,7 +4,7 @@
 
 #include <stdio.h>
 
-enum { VERTICES = 105, FACES = 1000, EDGES = 206, HEAP = 1000 };
+enum { VERTICES = 105, FACES = 1000, EDGES = 206, HEAP = 1000, PENDING = 206 };
 
 static float vertices[9 * VERTICES];
 static size_t ids[6 * FACES];
@@ -13,6 +13,7 @@ static uint8_t deleted[FACES];
 static separation_edge edges[EDGES];
 static size_t heap_ids[HEAP];
 static float heap_keys[HEAP];
+static size_t pending[2 * PENDING];
 
 #define LENT(slice) slice, sizeof slice / sizeof slice[0]
 
@@ -27,7 +28,7 @@ static separation_grid_vector direction_between(void)
     separation_pose pose = {0, 0, 0, 1, {0, 0, 0}};
     separation_vector start = {1, 0, 0};
     separation_answer found = separation_run(pose, upper, lower, start, 10, true, LENT(vertices), LENT(ids), LENT(floats),
-                                             LENT(deleted), LENT(edges), LENT(heap_ids), LENT(heap_keys));
+                                             LENT(deleted), LENT(edges), LENT(heap_ids), LENT(heap_keys), LENT(pending));
     return separation_propose(found.normal);
 }
 

@@ -25,6 +25,7 @@ fn direction_between() -> GridVector {
         edges: &mut [Edge::default(); 206],
         heap_ids: &mut [0; 1000],
         heap_keys: &mut [0.0; 1000],
+        pending: &mut [0; 2 * 206],
     };
     let pose = Pose { rotation: [0.0, 0.0, 0.0, 1.0], translation: Vector::default() };
     let start = Vector { x: 1.0, y: 0.0, z: 0.0 };

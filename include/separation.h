@@ -1,7 +1,8 @@
 /* The separation channel, the vote, the cast and the checker of a separating direction, from libembedding.a (rt staticlib embedding).
  *
  * A call allocates nothing and keeps nothing: it works on what it is lent. Every call ends, on any numbers and
- * any lengths. Its contract is in crates/embedding. */
+ * any lengths. Its contract is in crates/embedding. separation_run needs at most 13,240 bytes of stack, five functions
+ * deep; no function calls itself (bench/stack). */
 #ifndef SEPARATION_H
 #define SEPARATION_H
 
@@ -70,10 +71,12 @@ typedef struct {
 
 /* How far shape g2, in the pose pos12 in the frame of g1, is from g1, or how deep they meet.
  *
- * Four stores are lent, each slice as a pointer and its length. A store of several slices is as long as the fewest
- * whole records that one of them holds. 105 vertices, 10,710 faces, 206 edges and 10,710 heap entries are never refused.
+ * Five stores are lent, each slice as a pointer and its length. A store of several slices is as long as the fewest
+ * whole records that one of them holds. 105 vertices, 10,710 faces, 206 edges, 10,710 heap entries and 206 pending
+ * questions are never refused.
  *   vertices: nine numbers each          faces: six in ids, six in floats, one in deleted
- *   edges: one record each               heap entries: one in each of two slices */
+ *   edges: one record each               heap entries: one in each of two slices
+ *   pending questions of the silhouette's walk: two numbers each */
 separation_answer separation_run(
     separation_pose pos12, separation_shape g1, separation_shape g2,
     separation_vector dir, float max_dist, bool exact,
@@ -83,7 +86,8 @@ separation_answer separation_run(
     uint8_t *deleted, size_t deleted_length,
     separation_edge *edges, size_t edges_length,
     size_t *heap_ids, size_t heap_ids_length,
-    float *heap_keys, size_t heap_keys_length);
+    float *heap_keys, size_t heap_keys_length,
+    size_t *pending, size_t pending_length);
 
 /* Two out of three. Answers agree when outcome and counts are the same and the bits of each float, all NaNs counting
  * as one: a NaN agrees with a NaN, and -0 not with +0. */

@@ -1,13 +1,17 @@
 #!/usr/bin/env python3
 """Edits a copy of the published epa3.rs so that a run can be bounded and read afterwards.
 
-    edit_epa3.py SOURCE COPY [ORDER]    writes the edited copy
-    edit_epa3.py --list                 prints the edits
+    edit_epa3.py SOURCE COPY [ORDER [WALK]]    writes the edited copy
+    edit_epa3.py --list                        prints the edits
 
 ORDER says which of equal keys is popped first:
     heap    as the toolchain's heap has it: FaceId::cmp is left alone (the default)
     first   the face made first (arrival order)
     last    the face made last
+
+WALK says how the silhouette is walked:
+    recursive   as published: compute_silhouette calls itself (the default)
+    plain       a loop over a store of pending questions, last in, first out
 
 No edit touches arithmetic or a test of the Rust. An edit whose old text is not found exactly
 as often as it says stops the script: the published text is then not the one it was made for.
@@ -41,9 +45,11 @@ EDITS = [
         'use num::Bounded;\n\n#[path = "record.rs"]\nmod record;\n',
     ),
     Edit(
+        "a store of pending questions, a face and a corner each, which the plain walk alone fills; "
         "a place for the number of expansions completed, of lookups that missed, and for the way out",
         "    heap: BinaryHeap<FaceId>,\n}",
         "    heap: BinaryHeap<FaceId>,\n"
+        "    pending: Vec<(usize, usize)>,\n"
         "    expansions: usize,\n"
         "    missed: usize,\n"
         "    way_out: crate::query::epa::WayOut,\n"
@@ -59,6 +65,7 @@ EDITS = [
         "        self.faces.restart();\n"
         "        self.heap.restart();\n"
         "        self.silhouette.restart();\n"
+        "        self.pending.restart();\n"
         "        self.expansions = 0;\n"
         "        self.missed = 0;\n"
         "        self.way_out = Default::default();\n",
@@ -76,7 +83,7 @@ def missed(face: str, vertex: str) -> str:
 
 
 # A lookup has missed where the face has not got the vertex: counted after the lookups and before the
-# first neighbour is asked.
+# first neighbour is asked, or its question put in.
 LOOKUPS = [
     Edit(
         "the three lookups before a pass that missed are counted",
@@ -199,6 +206,55 @@ ORDERS = {
 }
 
 
+def puts(*questions: tuple[str, str]) -> str:
+    return "".join(f"self.pending.push(({face}, {corner}));\n" for face, corner in questions)
+
+
+def indented(depth: int, text: str) -> str:
+    return "".join(" " * depth + line for line in text.splitlines(keepends=True))
+
+
+# Each question that the published text asks by a call is put in instead, those of one place the last first, so
+# that the first of them is taken out first; its put tests for room, as each push does. After the edits of LOOKUPS,
+# which stand before the first call.
+WALKS = {
+    "recursive": [],
+    "plain": [
+        Edit(
+            "a pass puts in its three questions, and the walk answers until none is pending",
+            "            self.compute_silhouette(support_point_id, face.adj[0], adj_opp_pt_id1);\n"
+            "            self.compute_silhouette(support_point_id, face.adj[1], adj_opp_pt_id2);\n"
+            "            self.compute_silhouette(support_point_id, face.adj[2], adj_opp_pt_id3);\n",
+            indented(
+                12,
+                puts(
+                    ("face.adj[2]", "adj_opp_pt_id3"),
+                    ("face.adj[1]", "adj_opp_pt_id2"),
+                    ("face.adj[0]", "adj_opp_pt_id1"),
+                )
+                + "self.compute_silhouette(support_point_id);\n",
+            ),
+        ),
+        Edit(
+            "the walk is a loop: the last question comes out, and of a deleted face nothing is done",
+            "    fn compute_silhouette(&mut self, point: usize, id: usize, opp_pt_id: usize) {\n"
+            "        if !self.faces[id].deleted {\n",
+            "    fn compute_silhouette(&mut self, point: usize) {\n"
+            "        while let Some((id, opp_pt_id)) = self.pending.pop() {\n"
+            "            if self.faces[id].deleted {\n"
+            "                continue;\n"
+            "            }\n",
+        ),
+        Edit(
+            "of a seen face the second neighbour's question is put in, and then the first's",
+            "                self.compute_silhouette(point, adj1, adj_opp_pt_id1);\n"
+            "                self.compute_silhouette(point, adj2, adj_opp_pt_id2);\n",
+            indented(16, puts(("adj2", "adj_opp_pt_id2"), ("adj1", "adj_opp_pt_id1"))),
+        ),
+    ],
+}
+
+
 def apply(text: str, edit: Edit) -> str:
     found = text.count(edit.old)
     if found != edit.times:
@@ -206,8 +262,8 @@ def apply(text: str, edit: Edit) -> str:
     return text.replace(edit.old, edit.new)
 
 
-def edited(text: str, order: str) -> str:
-    for edit in EDITS + LOOKUPS + WAYS_OUT + ORDERS[order]:
+def edited(text: str, order: str, walk: str) -> str:
+    for edit in EDITS + LOOKUPS + WAYS_OUT + ORDERS[order] + WALKS[walk]:
         text = apply(text, edit)
     return text
 
@@ -215,6 +271,7 @@ def edited(text: str, order: str) -> str:
 def print_edits() -> None:
     groups = [("every copy", EDITS + LOOKUPS + WAYS_OUT)]
     groups += [(f"order {name}", edits) for name, edits in ORDERS.items() if edits]
+    groups += [(f"walk {name}", edits) for name, edits in WALKS.items() if edits]
     for group, edits in groups:
         for edit in edits:
             print(f"{group}: {edit.why}")
@@ -226,15 +283,16 @@ def print_edits() -> None:
 def main(arguments: list[str]) -> None:
     if arguments == ["--list"]:
         print_edits()
-    elif len(arguments) in (2, 3) and (arguments[2:] or ["heap"])[0] in ORDERS:
-        source, copy = arguments[:2]
-        order = (arguments[2:] or ["heap"])[0]
-        with open(source, encoding="utf-8") as file:
-            text = edited(file.read(), order)
-        with open(copy, "w", encoding="utf-8") as file:
-            file.write(text)
-    else:
+        return
+    if len(arguments) not in (2, 3, 4):
         sys.exit(__doc__)
+    source, copy, order, walk = arguments + ["heap", "recursive"][len(arguments) - 2 :]
+    if order not in ORDERS or walk not in WALKS:
+        sys.exit(__doc__)
+    with open(source, encoding="utf-8") as file:
+        text = edited(file.read(), order, walk)
+    with open(copy, "w", encoding="utf-8") as file:
+        file.write(text)
 
 
 if __name__ == "__main__":

@@ -103,6 +103,7 @@ fn answer(first: &Hull, second: &Hull) -> Answer {
         edges: &mut [Edge::default(); 206],
         heap_ids: &mut [0; 1000],
         heap_keys: &mut [0.0; 1000],
+        pending: &mut [0; 2 * 206],
     };
     let pose = Pose {
         rotation: [0.0, 0.0, 0.0, 1.0],

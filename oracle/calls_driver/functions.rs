@@ -80,6 +80,7 @@ pub const HEAP_PUSH: u32 = 71;
 pub const HEAP_PEEK: u32 = 72;
 pub const HEAP_POP: u32 = 73;
 pub const POLYTOPE: u32 = 74;
+pub const POLYTOPE_PLAIN: u32 = 75;
 
-pub const ROOTS: u32 = 75;
-pub const ROOT_CHAIN: u32 = 76;
+pub const ROOTS: u32 = 76;
+pub const ROOT_CHAIN: u32 = 77;

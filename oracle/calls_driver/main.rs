@@ -39,6 +39,7 @@ calls_driver vectors COUNT SEED      every operation on COUNT sets of numbers
 calls_driver geometry COUNT SEED     COUNT rounds, the families in turn; a round has each operation at least once
 calls_driver heap OPERATIONS SEED    push, pop and peek in runs
 calls_driver polytope COUNT SEED     COUNT runs from any simplex over stores of any length, the families in turn
+calls_driver plain COUNT SEED        the same with the plain walk, which has a store more
 calls_driver bench                   ns per root beside the hardware's
 The program is target/bin/calls (rt check calls), or the one that CALLS names.
 ";
@@ -76,6 +77,7 @@ fn command(words: &[&str]) -> Option<Compared> {
                 "geometry" => compare_geometry,
                 "heap" => heap::compare_runs,
                 "polytope" => polytope::compare_runs,
+                "plain" => polytope::compare_plain_runs,
                 _ => return None,
             };
             let (count, seed) = (count.parse().ok()?, seed.parse().ok()?);

@@ -1,25 +1,26 @@
-//! `EPA::closest_points` of epa3.rs, from any simplex and over stores of any length.
+//! `EPA::closest_points` of epa3.rs, from any simplex and over stores of any length: with the recursive walk, and with the plain one.
 
 use crate::answers::Answer;
 use crate::check::Check;
 use crate::families::{Numbers, FAMILIES};
-use crate::functions::POLYTOPE;
+use crate::functions::{POLYTOPE, POLYTOPE_PLAIN};
 use crate::port::Compared;
 use crate::random::Random;
 use crate::shapes::{direction, raw_shape, rust_shape};
 use crate::simplices::{any_simplex, is_simplex};
-use crate::stores::Stores;
+use crate::stores::{Stores, Walk};
 use crate::values::{RawShape, Simplex};
 use glamx::{Pose3, Vec3};
 use parry3d::lent::{NoRoom, Store};
 use parry3d::query::epa::epa3::EPA;
-use parry3d::query::epa::{Contents, Counts, Polytope, Readable, Rooms, WayOut};
+use parry3d::query::epa::epa3_plain::EPA as PlainEpa;
+use parry3d::query::epa::{Contents, Counts, Readable, Rooms, WayOut};
 use parry3d::query::gjk::{self, CsoPoint, GJKResult, VoronoiSimplex};
 use parry3d::shape::SupportMap;
 use std::panic::{catch_unwind, AssertUnwindSafe};
 
 /// The ways out in the order of the port's numbers; from `NO_ANSWER` on there is none.
-const WAYS: [&str; 17] = [
+const WAYS: [&str; 18] = [
     "single point",
     "converged",
     "stuck",
@@ -37,6 +38,7 @@ const WAYS: [&str; 17] = [
     "no room: faces",
     "no room: edges",
     "no room: heap",
+    "no room: pending",
 ];
 const NO_ANSWER: usize = 6;
 const NOT_A_SIMPLEX: usize = 11;
@@ -83,11 +85,12 @@ fn store_number(store: Store) -> usize {
         Store::Faces => 14,
         Store::Edges => 15,
         Store::Heap => 16,
+        Store::Pending => 17,
     }
 }
 
-/// The published run over so much room.
-fn rust_run(epa: &mut EPA, case: &Case, rooms: Rooms) -> Run {
+/// The published run, or the one with the plain walk, over so much room.
+fn rust_run(epa: &mut impl Readable, case: &Case, rooms: Rooms) -> Run {
     if !is_simplex(&case.simplex) {
         return Run {
             way: NOT_A_SIMPLEX,
@@ -121,19 +124,22 @@ fn rust_run(epa: &mut EPA, case: &Case, rooms: Rooms) -> Run {
 
 /// The room that a run with no limit needs, up to what the program can lend.
 fn needed(run: &Run) -> Rooms {
-    let [vertices, edges, faces, heap] = run.contents.as_ref().map_or([0; 4], |contents| {
+    let used = run.contents.as_ref().map_or([0; 5], |contents| {
         [
             contents.vertices.len(),
             contents.most_silhouette,
             contents.faces.len(),
             contents.most_heap,
+            contents.most_pending,
         ]
     });
+    let [vertices, edges, faces, heap, pending] = used;
     Rooms {
         vertices: vertices.min(PLENTY.vertices),
         edges: edges.min(PLENTY.edges),
         faces: faces.min(PLENTY.faces),
         heap: heap.min(PLENTY.heap),
+        pending: pending.min(PLENTY.pending),
     }
 }
 
@@ -143,34 +149,40 @@ const PLENTY: Rooms = Rooms {
     edges: 206,
     faces: 1000,
     heap: 1000,
-};
-
-const NO_LIMIT: Rooms = Rooms {
-    vertices: usize::MAX,
-    edges: usize::MAX,
-    faces: usize::MAX,
-    heap: usize::MAX,
+    pending: 206,
 };
 
 /// Half have what the run needs or a little more, one in fifty plenty; of the others one store is short, or all are.
-fn lent(random: &mut Random, need: Rooms) -> Rooms {
+fn lent(random: &mut Random, need: Rooms, walk: Walk) -> Rooms {
     if random.below(50) == 0 {
         return PLENTY;
     }
-    let short = random.below(10);
+    let stores = match walk {
+        Walk::Recursive => 4,
+        Walk::Plain => 5,
+    };
+    let short = random.below(2 * (stores + 1));
     let mut room = |store: usize, need: usize| {
-        if short == store || short == 4 {
+        if short == store || short == stores {
             random.below(need + 1)
         } else {
             need + random.below(3)
         }
     };
-    Rooms {
+    let mut rooms = Rooms {
         vertices: room(0, need.vertices),
         edges: room(1, need.edges),
         faces: room(2, need.faces),
         heap: room(3, need.heap),
+        pending: 0,
+    };
+    if walk == Walk::Plain {
+        rooms.pending = room(4, need.pending);
+        if random.below(10) == 0 {
+            rooms.pending = random.below(PLENTY.pending + 1);
+        }
     }
+    rooms
 }
 
 /// Seven runs in ten start from where GJK ended, if the shapes meet, the others from any simplex.
@@ -206,12 +218,17 @@ fn met(pose: &Pose3, g1: &dyn SupportMap, g2: &dyn SupportMap, dir: Vec3) -> Opt
     matches!(found, Ok(GJKResult::Intersection)).then(|| Simplex::from(&simplex))
 }
 
-fn compare_run(check: &mut Check, n: &mut Numbers, epa: &mut EPA) -> Compared {
+fn compare_run(
+    check: &mut Check,
+    n: &mut Numbers,
+    epa: &mut impl Readable,
+    walk: Walk,
+) -> Compared {
     let case = case(n);
-    let need = needed(&rust_run(epa, &case, NO_LIMIT));
-    let rooms = lent(n.random, need);
+    let need = needed(&rust_run(epa, &case, Rooms::NO_LIMIT));
+    let rooms = lent(n.random, need, walk);
     let run = rust_run(epa, &case, rooms);
-    let before = Stores::lent(n.random, rooms);
+    let before = Stores::lent(n.random, rooms, walk);
     let mut after = before.clone();
     if let Some(contents) = &run.contents {
         after.write(contents);
@@ -227,16 +244,35 @@ fn compare_run(check: &mut Check, n: &mut Numbers, epa: &mut EPA) -> Compared {
     let answer = (Answer::of_vectors(run.way, run.values), counts, after);
     let lists = before.lists(BEFORE_LISTS);
     let of = (case.simplex, case.pose, case.raw1, case.raw2, lists);
-    check.ask(WAYS[run.way], POLYTOPE, &of, run.way >= NO_ANSWER, &answer)
+    let function = match walk {
+        Walk::Recursive => POLYTOPE,
+        Walk::Plain => POLYTOPE_PLAIN,
+    };
+    check.ask(WAYS[run.way], function, &of, run.way >= NO_ANSWER, &answer)
 }
 
 /// So many runs, the families in turn.
-pub fn compare_runs(check: &mut Check, count: u64, seed: u64) -> Compared {
+fn compare_all(
+    check: &mut Check,
+    count: u64,
+    seed: u64,
+    epa: &mut impl Readable,
+    walk: Walk,
+) -> Compared {
     let mut random = Random::new(seed);
-    let mut epa = EPA::default();
     for family in FAMILIES.into_iter().cycle().take(count as usize) {
         check.family = family;
-        compare_run(check, &mut Numbers::new(&mut random, family), &mut epa)?;
+        compare_run(check, &mut Numbers::new(&mut random, family), epa, walk)?;
     }
     Ok(())
+}
+
+/// With the recursive walk, over four stores.
+pub fn compare_runs(check: &mut Check, count: u64, seed: u64) -> Compared {
+    compare_all(check, count, seed, &mut EPA::default(), Walk::Recursive)
+}
+
+/// With the plain walk, over five.
+pub fn compare_plain_runs(check: &mut Check, count: u64, seed: u64) -> Compared {
+    compare_all(check, count, seed, &mut PlainEpa::default(), Walk::Plain)
 }

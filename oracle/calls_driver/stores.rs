@@ -1,4 +1,4 @@
-//! The four stores as the port borrows them: seven lists, filled with a pattern before each run.
+//! The four stores as the port borrows them: seven lists, filled with a pattern before each run; and for the plain walk an eighth, the fifth store.
 
 use crate::random::Random;
 use crate::words::{Lists, Put, Words};
@@ -10,6 +10,13 @@ const PATTERN_ID: usize = 0x5A5A_0000_0000;
 const PATTERN_BITS: u32 = 0x6B00_0000;
 const PATTERN_FLAG: u8 = 7;
 
+/// How the silhouette is walked; the plain walk borrows one store more.
+#[derive(Copy, Clone, PartialEq)]
+pub enum Walk {
+    Recursive,
+    Plain,
+}
+
 #[derive(Clone)]
 pub struct Stores {
     vertices: Vec<f32>,
@@ -19,6 +26,8 @@ pub struct Stores {
     edges: Vec<usize>,
     heap_ids: Vec<usize>,
     heap_keys: Vec<f32>,
+    /// None where the walk is the recursive one, which has no pending questions.
+    pending: Option<Vec<usize>>,
 }
 
 fn ids(count: usize) -> Vec<usize> {
@@ -44,11 +53,18 @@ fn lengths<const N: usize>(random: &mut Random, room: usize, sizes: [usize; N]) 
 
 impl Stores {
     /// Stores for so many entries, of lists whose lengths differ.
-    pub fn lent(random: &mut Random, rooms: Rooms) -> Self {
+    pub fn lent(random: &mut Random, rooms: Rooms, walk: Walk) -> Self {
         let [of_vertices] = lengths(random, rooms.vertices, [9]);
         let [of_ids, of_floats, of_deleted] = lengths(random, rooms.faces, [6, 6, 1]);
         let [of_edges] = lengths(random, rooms.edges, [2]);
         let [of_heap_ids, of_heap_keys] = lengths(random, rooms.heap, [1, 1]);
+        let pending = match walk {
+            Walk::Recursive => None,
+            Walk::Plain => {
+                let [of_pending] = lengths(random, rooms.pending, [2]);
+                Some(ids(of_pending))
+            }
+        };
         Self {
             vertices: floats(of_vertices),
             ids: ids(of_ids),
@@ -57,6 +73,7 @@ impl Stores {
             edges: ids(of_edges),
             heap_ids: ids(of_heap_ids),
             heap_keys: floats(of_heap_keys),
+            pending,
         }
     }
 
@@ -64,10 +81,12 @@ impl Stores {
     pub fn lists(&self, before: usize) -> Lists {
         let lists = Lists::after(before).and(&self.vertices);
         let lists = lists.and(&self.ids).and(&self.floats).and(&self.deleted);
-        lists
-            .and(&self.edges)
-            .and(&self.heap_ids)
-            .and(&self.heap_keys)
+        let lists = lists.and(&self.edges);
+        let lists = lists.and(&self.heap_ids).and(&self.heap_keys);
+        match &self.pending {
+            Some(pending) => lists.and(pending),
+            None => lists,
+        }
     }
 
     /// The stores after a run: its entries; zeros where there was one and is none; and the rest as it was.
@@ -79,9 +98,13 @@ impl Stores {
         for (i, face) in contents.faces.iter().enumerate() {
             self.write_face(i, face);
         }
-        for i in 0..contents.most_silhouette {
-            let (face, corner) = contents.silhouette.get(i).copied().unwrap_or_default();
-            self.edges[2 * i..2 * i + 2].copy_from_slice(&[face, corner]);
+        write_pairs(
+            &mut self.edges,
+            &contents.silhouette,
+            contents.most_silhouette,
+        );
+        if let Some(pending) = &mut self.pending {
+            write_pairs(pending, &contents.pending, contents.most_pending);
         }
         for i in 0..contents.most_heap {
             let (face, key) = contents.heap.get(i).copied().unwrap_or_default();
@@ -107,6 +130,15 @@ impl Put for Stores {
     fn put(&self, words: &mut Words) {
         (&self.vertices, &self.ids, &self.floats, &self.deleted).put(words);
         (&self.edges, &self.heap_ids, &self.heap_keys).put(words);
+        self.pending.iter().for_each(|pending| pending.put(words));
+    }
+}
+
+/// Of so many places ever used those held, and zeros in the others.
+fn write_pairs(list: &mut [usize], held: &[(usize, usize)], used: usize) {
+    for i in 0..used {
+        let (face, corner) = held.get(i).copied().unwrap_or_default();
+        list[2 * i..2 * i + 2].copy_from_slice(&[face, corner]);
     }
 }
 

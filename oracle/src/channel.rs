@@ -14,6 +14,7 @@ pub const ROOMS: Rooms = Rooms {
     edges: 206,
     faces: 1000,
     heap: 1000,
+    pending: 206,
 };
 
 #[derive(Copy, Clone, Debug)]

@@ -30,7 +30,7 @@ oracle gen FAMILY SEED COUNT              a case file on standard output
 oracle damage SEED COUNT FOLDER           a case file on standard input
 oracle casts gen FAMILY SEED COUNT        casts as words on standard output
 oracle casts run|ways                     casts as words on standard input
-ROOM is vertices=N, edges=N, faces=N or heap=N
+ROOM is vertices=N, edges=N, faces=N, heap=N or pending=N
 FAMILY is ordinary, grid, mixed, limits, bits, tiny, huge, touching, coincident, arms or all
 ";
 
@@ -115,6 +115,7 @@ fn rooms(sizes: &[&str]) -> Option<Rooms> {
             "edges" => rooms.edges = room,
             "faces" => rooms.faces = room,
             "heap" => rooms.heap = room,
+            "pending" => rooms.pending = room,
             _ => return None,
         }
     }

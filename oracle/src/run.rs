@@ -6,7 +6,7 @@
 use crate::casefile::{Next, Reader, Record};
 use crate::channel::Channel;
 use crate::lines;
-use parry3d::query::epa::epa3::EPA;
+use parry3d::query::epa::epa3_plain::EPA;
 use parry3d::query::epa::Rooms;
 use std::io::{self, Read, Write};
 use std::thread;

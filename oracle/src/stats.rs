@@ -3,7 +3,7 @@
 use crate::casefile::{Next, Reader};
 use crate::channel::{Answer, Channel};
 use crate::lines;
-use parry3d::query::epa::epa3::EPA;
+use parry3d::query::epa::epa3_plain::EPA;
 use parry3d::query::epa::{Polytope, Readable, Rooms};
 use std::collections::BTreeMap;
 use std::io::{self, Read, Write};
@@ -47,6 +47,7 @@ struct Stats {
     most_faces: usize,
     most_edges: usize,
     most_heap: usize,
+    most_pending: usize,
     with_missed: u64,
     most_missed: usize,
 }
@@ -71,6 +72,7 @@ impl Stats {
         self.most_faces = self.most_faces.max(counts.faces_made);
         self.most_edges = self.most_edges.max(counts.most_edges);
         self.most_heap = self.most_heap.max(polytope.most_heap());
+        self.most_pending = self.most_pending.max(polytope.most_pending());
         self.with_missed += u64::from(counts.missed > 0);
         self.most_missed = self.most_missed.max(counts.missed);
     }
@@ -88,8 +90,8 @@ impl Stats {
         }
         writeln!(
             output,
-            "most faces {}, most edges {}, most heap entries {}",
-            self.most_faces, self.most_edges, self.most_heap
+            "most faces {}, most edges {}, most heap entries {}, most pending questions {}",
+            self.most_faces, self.most_edges, self.most_heap, self.most_pending
         )?;
         writeln!(
             output,

@@ -1,14 +1,14 @@
-//! `stores`: what the four stores hold after each record that reached the polytope.
+//! `stores`: what the five stores hold after each record that reached the polytope.
 //!
 //! A record's block is its line as `run` prints it, then a line per entry:
 //! `v` and nine floats; `f`, corners, neighbours, normal, weights, deleted (0 or 1);
-//! `e` face and corner; `h` face and key, in the heap's internal order; at last `used` with the
-//! places ever used of edges and heap.
+//! `e` face and corner; `h` face and key, in the heap's internal order; `q` face and corner of a
+//! pending question; at last `used` with the places ever used of edges, heap and pending questions.
 
 use crate::casefile::{Next, Reader};
 use crate::channel::Channel;
 use crate::lines;
-use parry3d::query::epa::epa3::EPA;
+use parry3d::query::epa::epa3_plain::EPA;
 use parry3d::query::epa::{Contents, FaceRecord, Readable, Rooms};
 use std::io::{self, Read, Write};
 
@@ -24,7 +24,8 @@ fn push_face(text: &mut Vec<u8>, face: &FaceRecord) -> io::Result<()> {
     writeln!(text, " {}", u8::from(face.deleted))
 }
 
-fn push_contents(text: &mut Vec<u8>, contents: &Contents) -> io::Result<()> {
+/// The entries of the four stores that either walk fills.
+pub fn push_entries(text: &mut Vec<u8>, contents: &Contents) -> io::Result<()> {
     for vertex in &contents.vertices {
         text.push(b'v');
         for vector in [&vertex.point, &vertex.orig1, &vertex.orig2] {
@@ -43,10 +44,18 @@ fn push_contents(text: &mut Vec<u8>, contents: &Contents) -> io::Result<()> {
         lines::push_hex(text, *key);
         text.push(b'\n');
     }
+    Ok(())
+}
+
+fn push_contents(text: &mut Vec<u8>, contents: &Contents) -> io::Result<()> {
+    push_entries(text, contents)?;
+    for (face, corner) in &contents.pending {
+        writeln!(text, "q {face} {corner}")?;
+    }
     writeln!(
         text,
-        "used {} {}",
-        contents.most_silhouette, contents.most_heap
+        "used {} {} {}",
+        contents.most_silhouette, contents.most_heap, contents.most_pending
     )
 }
 

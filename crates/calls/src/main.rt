@@ -83,10 +83,10 @@ fn answer_list(function: u32, args: &[u8], out: &mut [u8; 65_536], at: usize) ->
     if function <= 73 {
         return heaps::answer(function, args, out, at);
     }
-    if function == 74 {
-        return polytopes::answer(args, out, at);
+    if function <= 75 {
+        return polytopes::answer(function == 75, args, out, at);
     }
-    if function == 75 {
+    if function == 76 {
         return roots::range(args, out, at);
     }
     put_word(out, at, roots::chain(args))

@@ -1,6 +1,6 @@
 // The polytope: function 74, of a simplex, the pose of the second shape, two shapes, and seven lists, each as its place among the arguments
 // and its length: vertices, ids, floats, deleted, edges, heap_ids, heap_keys. After the answer (the way out, in the order below, two points
-// and a normal) come the five counts and the lists.
+// and a normal) come the five counts and the lists. Function 75 is the same with the plain walk, and has an eighth list: pending.
 ghost use Prim.Native.Nat.{_≤_};
 use crate::answers::Answer;
 use crate::answers::of_vectors;
@@ -57,6 +57,7 @@ fn store_way(store: Store) -> usize {
         Store::Faces => 14,
         Store::Edges => 15,
         Store::Heap => 16,
+        Store::Pending => 17,
     }
 }
 
@@ -114,7 +115,17 @@ fn put_queues(
     put_first_floats(out, c, heap_keys, length_at(args, 94))
 }
 
-pub fn answer(args: &[u8], out: &mut [u8; 65_536], at: usize) -> usize {
+// The recursive walk has no such list.
+fn pending_length(plain: bool, args: &[u8]) -> usize
+    ensures { λ r. ⌜ r ≤ 6_144 ⌝ }
+{
+    if plain {
+        return length_at(args, 96);
+    }
+    0
+}
+
+pub fn answer(plain: bool, args: &[u8], out: &mut [u8; 65_536], at: usize) -> usize {
     let simplex = simplex_at(args, 0);
     let pose = pose_at(args, 54);
     let g1 = shape_at(args, 61);
@@ -126,6 +137,7 @@ pub fn answer(args: &[u8], out: &mut [u8; 65_536], at: usize) -> usize {
     let e = length_at(args, 90);
     let f = length_at(args, 92);
     let g = length_at(args, 94);
+    let h = pending_length(plain, args);
     let mut vertices = floats_from(args, 81, a);
     let mut ids = sizes_from(args, 83, b);
     let mut floats = floats_from(args, 85, c);
@@ -133,20 +145,39 @@ pub fn answer(args: &[u8], out: &mut [u8; 65_536], at: usize) -> usize {
     let mut edges = sizes_from(args, 89, e);
     let mut heap_ids = sizes_from(args, 91, f);
     let mut heap_keys = floats_from(args, 93, g);
-    let told = epa::closest_points(
-        pose,
-        g1,
-        g2,
-        simplex,
-        &mut vertices[..a],
-        &mut ids[..b],
-        &mut floats[..c],
-        &mut deleted[..d],
-        &mut edges[..e],
-        &mut heap_ids[..f],
-        &mut heap_keys[..g],
-    );
+    let mut pending = sizes_from(args, 95, h);
+    let told = if plain {
+        epa::closest_points_plain(
+            pose,
+            g1,
+            g2,
+            simplex,
+            &mut vertices[..a],
+            &mut ids[..b],
+            &mut floats[..c],
+            &mut deleted[..d],
+            &mut edges[..e],
+            &mut heap_ids[..f],
+            &mut heap_keys[..g],
+            &mut pending[..h],
+        )
+    } else {
+        epa::closest_points(
+            pose,
+            g1,
+            g2,
+            simplex,
+            &mut vertices[..a],
+            &mut ids[..b],
+            &mut floats[..c],
+            &mut deleted[..d],
+            &mut edges[..e],
+            &mut heap_ids[..f],
+            &mut heap_keys[..g],
+        )
+    };
     let faces = put_told(out, at, told);
     let queues = put_faces(out, faces, args, vertices, ids, floats, deleted);
-    put_queues(out, queues, args, edges, heap_ids, heap_keys)
+    let questions = put_queues(out, queues, args, edges, heap_ids, heap_keys);
+    put_first_sizes(out, questions, pending, h)
 }

@@ -13,6 +13,7 @@ use Rattle.epa_polytope.specs.Same.{Equivalent}
 use Rattle.epa_polytope.specs.declared.types.Store.{Store}
 use Rattle.epa_polytope.specs.declared.types.End.{End}
 use Rattle.epa_polytope.specs.declared.types.End.the-variants.{NoRoom}
+use Rattle.epa_polytope.specs.declared.types.Walk.the-variants.{Plain as plain}
 use Rattle.epa.specs.declared.types.Answer as Epa
 use Rattle.epa.specs.Final.{Final, answered, penetration}
 use Rattle.epa.specs.Final as Runs
@@ -46,13 +47,13 @@ module _ (f : Format) (m : Pose) (g1 g2 : Shape) (dir : Vec3) (maxDist : Float) 
   unfolding separated
   channels-agree p q =
       let g = distance f m g1 g2 dir maxDist exact in
-      same-result (g .result) (penetration f m g1 g2 (g .simplex) l) (penetration f m g1 g2 (g .simplex) k) _ _ (λ o. refl) (λ o. refl)
-      (λ e. penetrations-agree f m g1 g2 (g .simplex) l k (met (g .result) _ _ e p) (met (g .result) _ _ e q) .answers)
+      same-result (g .result) (penetration plain f m g1 g2 (g .simplex) l) (penetration plain f m g1 g2 (g .simplex) k) _ _ (λ o. refl) (λ o. refl)
+      (λ e. penetrations-agree plain f m g1 g2 (g .simplex) l k (met (g .result) _ _ e p) (met (g .result) _ _ e q) .answers)
 
   -- THE SAME ROOM OF EACH STORE, or enough of it in both: R too is the same, with the same counts
   pub channels-same : ((y : Store) → Equivalent l k y) → separated f m g1 g2 dir maxDist exact l .answer ≡ separated f m g1 g2 dir maxDist exact k .answer
   unfolding separated
   channels-same rooms =
       let g = distance f m g1 g2 dir maxDist exact in
-      same-result (g .result) (penetration f m g1 g2 (g .simplex) l) (penetration f m g1 g2 (g .simplex) k) _ _ (λ o. refl) (λ o. refl)
-      (λ _. penetrations-same f m g1 g2 (g .simplex) l k rooms .answers)
+      same-result (g .result) (penetration plain f m g1 g2 (g .simplex) l) (penetration plain f m g1 g2 (g .simplex) k) _ _ (λ o. refl) (λ o. refl)
+      (λ _. penetrations-same plain f m g1 g2 (g .simplex) l k rooms .answers)

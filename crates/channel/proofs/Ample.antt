@@ -15,6 +15,7 @@ use Rattle.epa_polytope.specs.Bounds.{Ample}
 use Rattle.epa_polytope.specs.declared.types.End.{End}
 use Rattle.epa_polytope.specs.declared.types.End.the-variants.{Answers, Nothing, Panics, NoRoom}
 use Rattle.epa_polytope.specs.declared.types.Store.{Store}
+use Rattle.epa_polytope.specs.declared.types.Walk.the-variants.{Plain as plain}
 use Rattle.epa.proofs.Ample.{ample-penetration}
 use Rattle.lines.specs.Lines.{outcomeNumber}
 use Rattle.channel.specs.Channel.{distance, separated, Placed}
@@ -36,7 +37,7 @@ module _ (f : Format) (m : Pose) (g1 g2 : Shape) (dir : Vec3) (maxDist : Float) 
   pub ample-number : outcomeNumber (separated f m g1 g2 dir maxDist exact l .answer) ≡ 3 → ⊥
   ample-number e =
       let g = distance f m g1 g2 dir maxDist exact in
-      not-three (g .result) _ (ample-penetration f m g1 g2 (g .simplex) l room) (sym (numbers-agree f m g1 g2 dir maxDist exact l) ∙ e)
+      not-three (g .result) _ (ample-penetration plain f m g1 g2 (g .simplex) l room) (sym (numbers-agree f m g1 g2 dir maxDist exact l) ∙ e)
 
   -- so its letter is never R
   pub ample-separated : Placed (separated f m g1 g2 dir maxDist exact l .answer)

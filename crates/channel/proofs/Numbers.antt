@@ -14,6 +14,7 @@ use Rattle.epa_polytope.specs.Stores.{Lists}
 use Rattle.epa_polytope.specs.Steps.{refusal}
 use Rattle.epa_polytope.specs.declared.types.End.{End}
 use Rattle.epa_polytope.specs.declared.types.End.the-variants.{Answers, Nothing, Panics, NoRoom}
+use Rattle.epa_polytope.specs.declared.types.Walk.the-variants.{Plain as plain}
 use Rattle.epa.specs.declared.types.Answer.{Answer}
 use Rattle.epa.specs.Final.{Final, final, answered, penetration}
 use Rattle.lines.specs.declared.line.Counts.{Counts}
@@ -52,8 +53,8 @@ of-result Refused x run is kept k = rw (k _) refl
 
 pub numbers-agree : (f : Format) (m : Pose) (g1 g2 : Shape) (dir : Vec3) (maxDist : Float) (exact : Bool) (l : Lists)
     → outcomeNumber (separated f m g1 g2 dir maxDist exact l .answer)
-    ≡ numberBy (distance f m g1 g2 dir maxDist exact .result) (penetration f m g1 g2 (distance f m g1 g2 dir maxDist exact .simplex) l .answer .end)
+    ≡ numberBy (distance f m g1 g2 dir maxDist exact .result) (penetration plain f m g1 g2 (distance f m g1 g2 dir maxDist exact .simplex) l .answer .end)
 unfolding separated
 numbers-agree f m g1 g2 dir maxDist exact l =
     let g = distance f m g1 g2 dir maxDist exact in
-    of-result (g .result) _ (penetration f m g1 g2 (g .simplex) l) refl (λ o. final o l) (λ o. refl)
+    of-result (g .result) _ (penetration plain f m g1 g2 (g .simplex) l) refl (λ o. final o l) (λ o. refl)

@@ -17,6 +17,7 @@ use Rattle.gjk.specs.declared.rounds.GJKResult.the-variants.{Intersection}
 use Rattle.gjk.specs.declared.rounds.Gjk.{Gjk}
 use Rattle.gjk.specs.Gjk.{closestPoints}
 use Rattle.epa_polytope.specs.Stores.{Lists}
+use Rattle.epa_polytope.specs.declared.types.Walk.the-variants.{Plain as plain}
 use Rattle.epa.specs.declared.types.Answer.{Answer}
 use Rattle.epa.specs.Final.{Final, final, answered, penetration}
 use Rattle.lines.specs.declared.line.Outcome.{Outcome}
@@ -38,10 +39,10 @@ module _ (f : Format) (m : Pose) (g1 g2 : Shape) (dir : Vec3) (maxDist : Float) 
   by-run = ap (λ (t : Gjk). separatedBy f t m g1 g2 l) (run ∙ ap (closestPoints f (fromShapes f m g1 g2) maxDist exact) start)
 
   -- by a result q
-  by-result : (q : GJKResult) → g .result ≡ q → byResult q (answered outcomeOf (penetration f m g1 g2 (g .simplex) l)) (λ o. final o l) ≡ separated f m g1 g2 dir maxDist exact l
-  by-result q is = ap (λ (r : GJKResult). byResult r (answered outcomeOf (penetration f m g1 g2 (g .simplex) l)) (λ o. final o l)) (sym is) ∙ by-run
+  by-result : (q : GJKResult) → g .result ≡ q → byResult q (answered outcomeOf (penetration plain f m g1 g2 (g .simplex) l)) (λ o. final o l) ≡ separated f m g1 g2 dir maxDist exact l
+  by-result q is = ap (λ (r : GJKResult). byResult r (answered outcomeOf (penetration plain f m g1 g2 (g .simplex) l)) (λ o. final o l)) (sym is) ∙ by-run
 
-  pub meets : {l1 : Lists} {y : Answer} {o : Outcome} → g .result ≡ Intersection → final y l1 ≡ penetration f m g1 g2 (g .simplex) l → o ≡ outcomeOf y
+  pub meets : {l1 : Lists} {y : Answer} {o : Outcome} → g .result ≡ Intersection → final y l1 ≡ penetration plain f m g1 g2 (g .simplex) l → o ≡ outcomeOf y
       → final o l1 ≡ separated f m g1 g2 dir maxDist exact l
   meets {l1} is e told = ap (λ (t : Outcome). final t l1) told ∙ ap (answered outcomeOf) e ∙ by-result Intersection is
 

@@ -15,6 +15,7 @@ use Rattle.gjk.specs.declared.rounds.GJKResult.the-variants as Gjk
 use Rattle.gjk.specs.declared.rounds.Gjk.{Gjk}
 use Rattle.gjk.specs.Gjk.{closestPoints}
 use Rattle.epa_polytope.specs.Stores.{Lists}
+use Rattle.epa_polytope.specs.declared.types.Walk.the-variants.{Plain as plain}
 use Rattle.epa.specs.Final.{Final, final, answered, penetration}
 use Rattle.lines.specs.declared.line.Counts.{Counts}
 use Rattle.lines.specs.declared.line.Outcome.{Outcome}
@@ -39,7 +40,7 @@ byResult Gjk.Refused meeting kept = kept Told.Panic
 
 -- the lists that a run of GJK finds. The polytope's run starts from the simplex that it left
 abbrev pub separatedBy : Format → Gjk → Pose → Shape → Shape → Lists → Final Outcome
-separatedBy f g m g1 g2 l = byResult (g .result) (answered outcomeOf (penetration f m g1 g2 (g .simplex) l)) (λ o. final o l)
+separatedBy f g m g1 g2 l = byResult (g .result) (answered outcomeOf (penetration plain f m g1 g2 (g .simplex) l)) (λ o. final o l)
 
 -- FROM TWO SHAPES, a start direction, the largest distance, the exact flag, and lent lists
 unfoldable pub separated : Format → Pose → Shape → Shape → Vec3 → Float → Bool → Lists → Final Outcome

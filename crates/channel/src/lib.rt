@@ -1,5 +1,5 @@
 // The separation channel: from two shapes and the pose of the second in the frame of the first, how far apart they are by
-// GJK, and where they meet, how deep by the expanding polytope. The answer is what a record's line tells.
+// GJK, and where they meet, how deep by the expanding polytope, whose silhouette is walked without recursion. The answer is what a record's line tells.
 ghost use mathlib.Core.Path.{_≡_};
 ghost use lib.Ieee.{binary32};
 ghost use Rattle.epa.specs.Final.{allLent, Ends};
@@ -37,8 +37,9 @@ pub fn separate(
     edges: &mut [usize],
     heap_ids: &mut [usize],
     heap_keys: &mut [f32],
+    pending: &mut [usize],
 ) -> Outcome
-    ensures { λ r. ⌜ Ends (separated binary32 pos12 g1 g2 dir «max_dist» exact) r (λ m. allLent m vertices ids floats deleted edges «heap_ids» «heap_keys») ⌝ }
+    ensures { λ r. ⌜ Ends (separated binary32 pos12 g1 g2 dir «max_dist» exact) r (λ m. allLent m vertices ids floats deleted edges «heap_ids» «heap_keys» pending) ⌝ }
 {
     let start = start_of(pos12, g1, g2, dir);
     let run = gjk::closest_points(pos12, g1, g2, max_dist, exact, start);
@@ -46,7 +47,7 @@ pub fn separate(
     let left = run.simplex;
     match result {
         GJKResult::Intersection => {
-            let answer = epa::closest_points(
+            let answer = epa::closest_points_plain(
                 pos12,
                 g1,
                 g2,
@@ -58,6 +59,7 @@ pub fn separate(
                 edges,
                 heap_ids,
                 heap_keys,
+                pending,
             );
             outcome_of(answer)
         }

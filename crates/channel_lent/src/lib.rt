@@ -33,10 +33,11 @@ fn run_row(
     row: Row,
     heap_ids: &mut [usize],
     heap_keys: &mut [f32],
+    pending: &mut [usize],
 ) -> Ran
     requires { ⌜ Whole row ⌝ }
     ensures { λ r. ⌜ Ends (separated binary32 pos12 g1 g2 dir «max_dist» exact) (r .answer)
-        (λ m. rowLent m vertices ids floats deleted (either m row (r .row)) «heap_ids» «heap_keys») × (r .row .n ≡ row .n) ⌝ }
+        (λ m. rowLent m vertices ids floats deleted (either m row (r .row)) «heap_ids» «heap_keys» pending) × (r .row .n ≡ row .n) ⌝ }
 {
     let mut pairs = row.pairs;
     let n = row.n;
@@ -54,6 +55,7 @@ fn run_row(
         &mut pairs[..n * 2],
         heap_ids,
         heap_keys,
+        pending,
     );
     Ran {
         answer,
@@ -76,9 +78,10 @@ pub fn separate(
     edges: &mut [Edge],
     heap_ids: &mut [usize],
     heap_keys: &mut [f32],
+    pending: &mut [usize],
 ) -> Outcome
     ensures { λ r. ⌜ Ends (onFirst (separated binary32 pos12 g1 g2 dir «max_dist» exact)) r
-        (λ m. recordsLent m vertices ids floats deleted edges «heap_ids» «heap_keys») ⌝ }
+        (λ m. recordsLent m vertices ids floats deleted edges «heap_ids» «heap_keys» pending) ⌝ }
 {
     let row = edges::row_of(edges);
     let ran = run_row(
@@ -95,6 +98,7 @@ pub fn separate(
         row,
         heap_ids,
         heap_keys,
+        pending,
     );
     edges::publish(edges, ran.row);
     ran.answer

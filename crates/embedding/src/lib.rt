@@ -40,8 +40,9 @@ fn run_numbers(
     edges: &mut [usize],
     heap_ids: &mut [usize],
     heap_keys: &mut [f32],
+    pending: &mut [usize],
 ) -> Answer
-    ensures { λ r. ⌜ Ends (ran binary32 pos12 (shapeOf g1) (shapeOf g2) dir «max_dist» exact) r (λ m. allLent m vertices ids floats deleted edges «heap_ids» «heap_keys») ⌝ }
+    ensures { λ r. ⌜ Ends (ran binary32 pos12 (shapeOf g1) (shapeOf g2) dir «max_dist» exact) r (λ m. allLent m vertices ids floats deleted edges «heap_ids» «heap_keys» pending) ⌝ }
 {
     let MaybeShape::Some(first) = shape_of(g1) else {
         return malformed_answer();
@@ -63,6 +64,7 @@ fn run_numbers(
         edges,
         heap_ids,
         heap_keys,
+        pending,
     );
     answer_of(outcome)
 }
@@ -87,10 +89,11 @@ fn run_row(
     row: Row,
     heap_ids: &mut [usize],
     heap_keys: &mut [f32],
+    pending: &mut [usize],
 ) -> Ran
     requires { ⌜ Whole row ⌝ }
     ensures { λ r. ⌜ Ends (ran binary32 pos12 (shapeOf g1) (shapeOf g2) dir «max_dist» exact) (r .answer)
-        (λ m. rowLent m vertices ids floats deleted (either m row (r .row)) «heap_ids» «heap_keys») × (r .row .n ≡ row .n) ⌝ }
+        (λ m. rowLent m vertices ids floats deleted (either m row (r .row)) «heap_ids» «heap_keys» pending) × (r .row .n ≡ row .n) ⌝ }
 {
     let mut pairs = row.pairs;
     let n = row.n;
@@ -108,6 +111,7 @@ fn run_row(
         &mut pairs[..n * 2],
         heap_ids,
         heap_keys,
+        pending,
     );
     Ran {
         answer,
@@ -131,9 +135,10 @@ pub extern "C" fn separation_run(
     edges: &mut [Edge],
     heap_ids: &mut [usize],
     heap_keys: &mut [f32],
+    pending: &mut [usize],
 ) -> Answer
     ensures { λ r. ⌜ Ends (onFirst (ran binary32 pos12 (shapeOf g1) (shapeOf g2) dir «max_dist» exact)) r
-        (λ m. recordsLent m vertices ids floats deleted edges «heap_ids» «heap_keys») ⌝ }
+        (λ m. recordsLent m vertices ids floats deleted edges «heap_ids» «heap_keys» pending) ⌝ }
 {
     let row = edges::row_of(edges);
     let ran = run_row(
@@ -150,6 +155,7 @@ pub extern "C" fn separation_run(
         row,
         heap_ids,
         heap_keys,
+        pending,
     );
     edges::publish(edges, ran.row);
     ran.answer

@@ -9,41 +9,42 @@ use Rattle.epa_polytope.specs.declared.types.End.{End}
 use Rattle.epa_polytope.specs.declared.types.End.the-variants.{NoRoom as noRoom}
 use Rattle.epa_polytope.specs.declared.types.Store.{Store}
 use Rattle.epa_polytope.specs.Stores.{Lists, State}
-use Rattle.epa_polytope.specs.Start.{worldOf}
+use Rattle.epa_polytope.specs.declared.types.Walk.{Walk}
+use Rattle.epa_polytope.specs.Start.{worldOf, walkedAs}
 use Rattle.epa_polytope.specs.Same.{Same, SameEnd, Equivalent}
 use Rattle.epa_polytope.proofs.Agreement.{agreement, no-difference}
 use Rattle.epa.specs.Final.{Final, penetration, Placed}
 use Rattle.epa.specs.declared.types.Answer.{Answer}
 use Rattle.epa.proofs.Ample.{Reported, reported}
 
-module _ (f : Format) (m : Pose) (g1 g2 : Shape) (x : VoronoiSimplex) (l k : Lists) where
+module _ (walk : Walk) (f : Format) (m : Pose) (g1 g2 : Shape) (x : VoronoiSimplex) (l k : Lists) where
   -- one answer, and the same content of the stores that both leave, up to the counts
   pub record OneAnswer : Type 0 where
-    pub answers : penetration f m g1 g2 x l .answer ≡ penetration f m g1 g2 x k .answer
-    pub stores : Same (reported f m g1 g2 x l .stores) (reported f m g1 g2 x k .stores)
+    pub answers : penetration walk f m g1 g2 x l .answer ≡ penetration walk f m g1 g2 x k .answer
+    pub stores : Same (reported walk f m g1 g2 x l .stores) (reported walk f m g1 g2 x k .stores)
 
-  one-answer : SameEnd (reported f m g1 g2 x l .end) (reported f m g1 g2 x k .end) (reported f m g1 g2 x l .stores) (reported f m g1 g2 x k .stores) → OneAnswer
+  one-answer : SameEnd (reported walk f m g1 g2 x l .end) (reported walk f m g1 g2 x k .end) (reported walk f m g1 g2 x l .stores) (reported walk f m g1 g2 x k .stores) → OneAnswer
   one-answer h =
-      let a = reported f m g1 g2 x l .told in
-      let b = reported f m g1 g2 x k .told in
+      let a = reported walk f m g1 g2 x l .told in
+      let b = reported walk f m g1 g2 x k .told in
       let e = h .end in
       let c = h .stores .tally in
       let d = h .living in
       record { answers = cc; stores = h .stores }
 
-  placed-end : (y : Lists) → Placed (penetration f m g1 g2 x y .answer) → (z : Store) → reported f m g1 g2 x y .end ≡ noRoom z → ⊥
-  placed-end y p z e = p z (ap (λ (q : Final Answer). q .answer .end) (reported f m g1 g2 x y .told) ∙ e)
+  placed-end : (y : Lists) → Placed (penetration walk f m g1 g2 x y .answer) → (z : Store) → reported walk f m g1 g2 x y .end ≡ noRoom z → ⊥
+  placed-end y p z e = p z (ap (λ (q : Final Answer). q .answer .end) (reported walk f m g1 g2 x y .told) ∙ e)
 
   -- NEITHER REFUSED FOR ROOM
-  pub penetrations-agree : Placed (penetration f m g1 g2 x l .answer) → Placed (penetration f m g1 g2 x k .answer) → OneAnswer
+  pub penetrations-agree : Placed (penetration walk f m g1 g2 x l .answer) → Placed (penetration walk f m g1 g2 x k .answer) → OneAnswer
   penetrations-agree p q =
-      let a = reported f m g1 g2 x l in
-      let b = reported f m g1 g2 x k in
-      one-answer (agreement (worldOf f m g1 g2) x l k (a .end) (b .end) (a .stores) (b .stores) (a .ran) (b .ran) (placed-end l p) (placed-end k q))
+      let a = reported walk f m g1 g2 x l in
+      let b = reported walk f m g1 g2 x k in
+      one-answer (agreement (walkedAs walk (worldOf f m g1 g2)) x l k (a .end) (b .end) (a .stores) (b .stores) (a .ran) (b .ran) (placed-end l p) (placed-end k q))
 
   -- THE SAME ROOM OF EACH STORE, or enough of it in both: refusals too are the same
   pub penetrations-same : ((y : Store) → Equivalent l k y) → OneAnswer
   penetrations-same rooms =
-      let a = reported f m g1 g2 x l in
-      let b = reported f m g1 g2 x k in
-      one-answer (no-difference (worldOf f m g1 g2) x l k (a .end) (b .end) (a .stores) (b .stores) (a .ran) (b .ran) rooms)
+      let a = reported walk f m g1 g2 x l in
+      let b = reported walk f m g1 g2 x k in
+      one-answer (no-difference (walkedAs walk (worldOf f m g1 g2)) x l k (a .end) (b .end) (a .stores) (b .stores) (a .ran) (b .ran) rooms)

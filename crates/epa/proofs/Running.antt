@@ -1,5 +1,9 @@
 -- The whole run and its answer, told of the lists that the code leaves: the start, and then the expansions. For any world. Assumes nothing.
-use mathlib.Core.Path.{_≡_, sym, ap, _∙_}
+use mathlib.Core.Path.{_≡_, refl, sym, ap, _∙_}
+use mathlib.Core.List.{List, [], _∷_}
+use Prim.Native.Nat.{ℕ}
+use native.Mathlib.Omega.{arith}
+use lib.ListN.{length}
 use lib.Ieee.{Float, Format}
 use Rattle.vector.specs.declared.pose.Pose.{Pose}
 use Rattle.shape.specs.declared.support.Shape.{Shape}
@@ -9,16 +13,25 @@ use Rattle.epa_polytope.specs.declared.types.Begun.the-variants as Begun
 use Rattle.epa_polytope.specs.declared.types.End.{End}
 use Rattle.epa_polytope.specs.declared.types.Finish.{Finish}
 use Rattle.epa_polytope.specs.declared.types.Tally.{Tally}
-use Rattle.epa_polytope.specs.Stores.{Lists, stateOf, noneYet}
+use Rattle.epa_polytope.specs.Stores.{Lists, stateOf, noneYet, withPending}
 use Rattle.epa_polytope.specs.Steps.{Out, next, _>>=_}
-use Rattle.epa_polytope.specs.Start.{World, worldOf, begin}
+use Rattle.epa_polytope.specs.declared.types.Walk.{Walk}
+use Rattle.epa_polytope.specs.Start.{World, worldOf, walkedAs, begin}
 use Rattle.epa_polytope.specs.Run.{expansions, epa, run, closestPoints}
 use Rattle.epa_polytope.specs.Contracts.{Does, beginOut, finishOut}
 use Rattle.epa.specs.declared.types.Answer.{Answer}
 use Rattle.epa.specs.Final.{final, finalOf, answerAt, penetration}
 use Rattle.epa_polytope.specs.Code.{Started}
+use Rattle.epa_polytope.proofs.AnyWalk.{begin-any}
 
-module _ (w : World) (x : VoronoiSimplex) {l l1 : Lists} {r : Begun} (g : Does beginOut (begin w x) l noneYet l1 r) where
+-- the start is the same by either walk
+module _ (y : Walk) (w0 : World) (x : VoronoiSimplex) {l l1 : Lists} {r : Begun} (b : Does beginOut (begin w0 x) l noneYet l1 r) where
+  abbrev w : World
+  w = walkedAs y w0
+
+  g : Does beginOut (begin w x) l noneYet l1 r
+  g = record { same = b .same ∙ sym (begin-any y w0 x (stateOf l noneYet)) }
+
   goes-on : {y : Begun} → r ≡ y → next (beginOut l1 y) (expansions w) ≡ epa w x (stateOf l noneYet)
   unfolding epa _>>=_
   goes-on t = ap (λ (o : Out Float). next o (expansions w)) (rw t at (g .same))
@@ -35,7 +48,16 @@ module _ (w : World) (x : VoronoiSimplex) {l l1 : Lists} {r : Begun} (g : Does b
     run-ends h = record { same = h .same ∙ goes-on t }
 
 -- the answer is the run's end with its counts
-pub answers-final : (f : Format) (m : Pose) (g1 g2 : Shape) (x : VoronoiSimplex) {l l1 : Lists} {r : Finish} {y : Answer} → Does finishOut (epa (worldOf f m g1 g2) x) l noneYet l1 r
-    → y ≡ answerAt (l1 .deleted) r → final y l1 ≡ penetration f m g1 g2 x l
+pub answers-final : (z : Walk) (f : Format) (m : Pose) (g1 g2 : Shape) (x : VoronoiSimplex) {l l1 : Lists} {r : Finish} {y : Answer} → Does finishOut (epa (walkedAs z (worldOf f m g1 g2)) x) l noneYet l1 r
+    → y ≡ answerAt (l1 .deleted) r → final y l1 ≡ penetration z f m g1 g2 x l
 unfolding closestPoints run
-answers-final f m g1 g2 x {l} {l1} g e = ap (λ (z : Answer). final z l1) e ∙ ap finalOf (g .same)
+answers-final z f m g1 g2 x {l} {l1} g e = ap (λ (y : Answer). final y l1) e ∙ ap finalOf (g .same)
+
+-- where no place is lent for a question, none is left
+none-left : (l : List ℕ) → length l ≡ 0 → [] ≡ l
+none-left [] e = refl
+none-left (x ∷ l) e = let z : ⊥ = omega arith in absurd z
+
+pub answers-four : (z : Walk) (f : Format) (m : Pose) (g1 g2 : Shape) (x : VoronoiSimplex) {l l1 : Lists} {r : Finish} {y : Answer} → Does finishOut (epa (walkedAs z (worldOf f m g1 g2)) x) l noneYet l1 r
+    → y ≡ answerAt (l1 .deleted) r → length (l1 .pending) ≡ 0 → final y (withPending [] l1) ≡ penetration z f m g1 g2 x l
+answers-four z f m g1 g2 x {l} {l1} {r} {y} g e none = ap (λ (p : List ℕ). final y (withPending p l1)) (none-left (l1 .pending) none) ∙ answers-final z f m g1 g2 x g e

@@ -1,6 +1,6 @@
 -- What a whole run answers and leaves in the lists that it is lent: `EPA::closest_points` of src/query/epa/epa3.rs over two shapes of the closed choice. Any format. Definitions only.
 use mathlib.Core.Path.{_≡_}
-use mathlib.Core.List.{List}
+use mathlib.Core.List.{List, []}
 use Prim.Native.Nat.{ℕ}
 use lib.Ieee.{Float, Format}
 use Rattle.vector.specs.declared.pose.Pose.{Pose}
@@ -10,6 +10,7 @@ use Rattle.simplex.specs.declared.voronoi_simplex.VoronoiSimplex.{VoronoiSimple
 use Rattle.epa_polytope.specs.Stores.{Lists, State, liveTo}
 use Rattle.epa_polytope.specs.Steps.{Out, onward, ended, Over}
 use Rattle.epa_polytope.specs.Run.{closestPoints}
+use Rattle.epa_polytope.specs.declared.types.Walk.{Walk}
 use Rattle.epa_polytope.specs.Contracts.{Lent, Moment, called, returned, when}
 use Rattle.epa_polytope.specs.declared.types.End.{End}
 use Rattle.epa_polytope.specs.declared.types.End.the-variants.{NoRoom as noRoom}
@@ -49,9 +50,9 @@ abbrev pub finalOf : Out Over → Final Answer
 finalOf (ended e s) = finalAt e s
 finalOf (onward x s) = absurd x
 
--- THE RUN of two shapes, the second in a pose, from a simplex, over lent lists
-abbrev pub penetration : Format → Pose → Shape → Shape → VoronoiSimplex → Lists → Final Answer
-penetration f m g1 g2 x l = finalOf (closestPoints f (fromShapes f m g1 g2) x l)
+-- THE RUN of two shapes by either walk, the second in a pose, from a simplex, over lent lists
+abbrev pub penetration : Walk → Format → Pose → Shape → Shape → VoronoiSimplex → Lists → Final Answer
+penetration y f m g1 g2 x l = finalOf (closestPoints y f (fromShapes f m g1 g2) x l)
 
 -- an answer that is not refused for room
 abbrev pub Placed : Answer → Type 0
@@ -59,13 +60,16 @@ Placed x = (y : Store) → x .end ≡ noRoom y → ⊥
 
 -- ---- the contract of a whole call
 
--- seven lists
-abbrev pub listsOf : List Float → List ℕ → List Float → List ℕ → List ℕ → List ℕ → List Float → Lists
-listsOf v i x d e hi hk = record { vertices = v; faceIds = i; faceFloats = x; deleted = d; edges = e; heapIds = hi; heapKeys = hk }
+-- eight lists
+abbrev pub listsOf : List Float → List ℕ → List Float → List ℕ → List ℕ → List ℕ → List Float → List ℕ → Lists
+listsOf v i x d e hi hk p = record { vertices = v; faceIds = i; faceFloats = x; deleted = d; edges = e; heapIds = hi; heapKeys = hk; pending = p }
 
--- as they are lent, at a moment
-abbrev pub allLent : Moment → Lent Float → Lent ℕ → Lent Float → Lent ℕ → Lent ℕ → Lent ℕ → Lent Float → Lists
-allLent m v i x d e hi hk = listsOf (when m v) (when m i) (when m x) (when m d) (when m e) (when m hi) (when m hk)
+-- as they are lent, at a moment; and where no place is lent for a question
+abbrev pub allLent : Moment → Lent Float → Lent ℕ → Lent Float → Lent ℕ → Lent ℕ → Lent ℕ → Lent Float → Lent ℕ → Lists
+allLent m v i x d e hi hk p = listsOf (when m v) (when m i) (when m x) (when m d) (when m e) (when m hi) (when m hk) (when m p)
+
+abbrev pub fourLent : Moment → Lent Float → Lent ℕ → Lent Float → Lent ℕ → Lent ℕ → Lent ℕ → Lent Float → Lists
+fourLent m v i x d e hi hk = listsOf (when m v) (when m i) (when m x) (when m d) (when m e) (when m hi) (when m hk) []
 
 -- what is answered and left is what d makes of the lists
 abbrev pub Ends : {A : Type 0} → (Lists → Final A) → A → (Moment → Lists) → Type 0

@@ -4,7 +4,7 @@ ghost use lib.ListN.{getD};
 ghost use lib.Ieee.{binary32};
 ghost use Rattle.epa_polytope.specs.Stores.{stateOf, withDeleted, withHeap};
 ghost use Rattle.epa_polytope.specs.Run.{popLive, iterate, expansions};
-ghost use Rattle.epa_polytope.specs.Contracts.{Gives, visitOut, finishOut, lent, when, singleWorld};
+ghost use Rattle.epa_polytope.specs.Contracts.{Gives, visitOut, finishOut, lentAll, when, singleBy};
 ghost use Rattle.epa.specs.Final.{listsOf};
 ghost use Rattle.epa_polytope.specs.Code.{popOut, Early, completedOf, HeapWithin, CanExpand, firstBest, Started};
 use epa_expansion::visit;
@@ -17,6 +17,7 @@ use epa_polytope::MaybeFaceId;
 use epa_polytope::Popped;
 use epa_polytope::Tally;
 use epa_polytope::Visited;
+use epa_polytope::Walk;
 use epa_stores::deleted_at;
 use shape::Shape;
 use vector::Pose;
@@ -73,7 +74,9 @@ fn iterate(
     edges: &mut [usize],
     heap_ids: &mut [usize],
     heap_keys: &mut [f32],
+    pending: &mut [usize],
     tally: Tally,
+    walk: Walk,
     pos12: Pose,
     g1: Shape,
     g2: Shape,
@@ -81,7 +84,7 @@ fn iterate(
     best: Best,
 ) -> Visited
     requires { ⌜ CanExpand tally (now «heap_ids») (now «heap_keys») ⌝ }
-    ensures { λ r. ⌜ Gives visitOut (iterate (singleWorld pos12 g1 g2) tol best) tally r (λ m. lent m vertices ids floats deleted edges «heap_ids» «heap_keys») ⌝ }
+    ensures { λ r. ⌜ Gives visitOut (iterate (singleBy walk pos12 g1 g2) tol best) tally r (λ m. lentAll m vertices ids floats deleted edges «heap_ids» «heap_keys» pending) ⌝ }
 {
     let popped = pop_live(deleted, heap_ids, heap_keys, tally);
     let entry = popped.entry;
@@ -98,7 +101,9 @@ fn iterate(
         edges,
         heap_ids,
         heap_keys,
+        pending,
         next,
+        walk,
         pos12,
         g1,
         g2,
@@ -136,15 +141,17 @@ pub fn expansions(
     edges: &mut [usize],
     heap_ids: &mut [usize],
     heap_keys: &mut [f32],
+    pending: &mut [usize],
     start: Tally,
+    walk: Walk,
     pos12: Pose,
     g1: Shape,
     g2: Shape,
     tol: f32,
 ) -> Finish
-    requires { ⌜ Started (singleWorld pos12 g1 g2) tol
-        (stateOf (listsOf (now vertices) (now ids) (now floats) (now deleted) (now edges) (now «heap_ids») (now «heap_keys»)) start) ⌝ }
-    ensures { λ r. ⌜ Gives finishOut (expansions (singleWorld pos12 g1 g2) tol) start r (λ m. lent m vertices ids floats deleted edges «heap_ids» «heap_keys») ⌝ }
+    requires { ⌜ Started (singleBy walk pos12 g1 g2) tol
+        (stateOf (listsOf (now vertices) (now ids) (now floats) (now deleted) (now edges) (now «heap_ids») (now «heap_keys») (now pending)) start) ⌝ }
+    ensures { λ r. ⌜ Gives finishOut (expansions (singleBy walk pos12 g1 g2) tol) start r (λ m. lentAll m vertices ids floats deleted edges «heap_ids» «heap_keys» pending) ⌝ }
 {
     let mut tally = start;
     let mut best = first_best(heap_ids);
@@ -158,7 +165,9 @@ pub fn expansions(
             edges,
             heap_ids,
             heap_keys,
+            pending,
             tally,
+            walk,
             pos12,
             g1,
             g2,

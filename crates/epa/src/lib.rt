@@ -1,11 +1,13 @@
 // Penetration: from two shapes that meet, the pose of the second in the frame of the first, and the simplex that GJK ended with, a
-// point on each and a normal, by the expanding polytope of epa3.rs. The caller lends the four stores.
+// point on each and a normal, by the expanding polytope of epa3.rs. The caller lends the four stores, or five: where the silhouette is
+// walked without recursion, the pending questions too.
 ghost use mathlib.Core.Path.{_≡_};
 ghost use lib.Ieee.{binary32};
 ghost use Rattle.epa_polytope.specs.Stores.{noneYet};
 ghost use Rattle.epa_polytope.specs.Run.{epa};
-ghost use Rattle.epa_polytope.specs.Contracts.{Gives, finishOut, lent, singleWorld};
-ghost use Rattle.epa.specs.Final.{allLent, Ends, penetration, answerAt, countsAt};
+ghost use Rattle.epa_polytope.specs.Contracts.{Gives, finishOut, lentAll, singleBy};
+ghost use Rattle.epa_polytope.specs.declared.types.Walk.the-variants.{Recursive as recursive, Plain as plain};
+ghost use Rattle.epa.specs.Final.{fourLent, allLent, Ends, penetration, answerAt, countsAt};
 
 mod expansions;
 mod types;
@@ -13,6 +15,7 @@ mod types;
 use epa_polytope::Begun;
 use epa_polytope::Finish;
 use epa_polytope::Tally;
+use epa_polytope::Walk;
 use epa_start::begin;
 use epa_stores::live_to;
 use expansions::expansions;
@@ -31,12 +34,14 @@ fn run(
     edges: &mut [usize],
     heap_ids: &mut [usize],
     heap_keys: &mut [f32],
+    pending: &mut [usize],
+    walk: Walk,
     pos12: Pose,
     g1: Shape,
     g2: Shape,
     simplex: VoronoiSimplex,
 ) -> Finish
-    ensures { λ r. ⌜ Gives finishOut (epa (singleWorld pos12 g1 g2) simplex) noneYet r (λ m. lent m vertices ids floats deleted edges «heap_ids» «heap_keys») ⌝ }
+    ensures { λ r. ⌜ Gives finishOut (epa (singleBy walk pos12 g1 g2) simplex) noneYet r (λ m. lentAll m vertices ids floats deleted edges «heap_ids» «heap_keys» pending) ⌝ }
 {
     let begun = begin(
         vertices,
@@ -60,7 +65,9 @@ fn run(
             edges,
             heap_ids,
             heap_keys,
+            pending,
             tally,
+            walk,
             pos12,
             g1,
             g2,
@@ -91,7 +98,7 @@ fn answer_at(deleted: &[u8], finish: Finish) -> Answer
     Answer { end, counts }
 }
 
-// `EPA::closest_points`.
+// `EPA::closest_points`, by the recursive walk, over four stores: no question is ever pending.
 pub fn closest_points(
     pos12: Pose,
     g1: Shape,
@@ -105,7 +112,43 @@ pub fn closest_points(
     heap_ids: &mut [usize],
     heap_keys: &mut [f32],
 ) -> Answer
-    ensures { λ r. ⌜ Ends (penetration binary32 pos12 g1 g2 simplex) r (λ m. allLent m vertices ids floats deleted edges «heap_ids» «heap_keys») ⌝ }
+    ensures { λ r. ⌜ Ends (penetration recursive binary32 pos12 g1 g2 simplex) r (λ m. fourLent m vertices ids floats deleted edges «heap_ids» «heap_keys») ⌝ }
+{
+    let mut none = [0usize; 0];
+    let finish = run(
+        vertices,
+        ids,
+        floats,
+        deleted,
+        edges,
+        heap_ids,
+        heap_keys,
+        &mut none,
+        Walk::Recursive,
+        pos12,
+        g1,
+        g2,
+        simplex,
+    );
+    answer_at(deleted, finish)
+}
+
+// The same by the plain walk, over five stores.
+pub fn closest_points_plain(
+    pos12: Pose,
+    g1: Shape,
+    g2: Shape,
+    simplex: VoronoiSimplex,
+    vertices: &mut [f32],
+    ids: &mut [usize],
+    floats: &mut [f32],
+    deleted: &mut [u8],
+    edges: &mut [usize],
+    heap_ids: &mut [usize],
+    heap_keys: &mut [f32],
+    pending: &mut [usize],
+) -> Answer
+    ensures { λ r. ⌜ Ends (penetration plain binary32 pos12 g1 g2 simplex) r (λ m. allLent m vertices ids floats deleted edges «heap_ids» «heap_keys» pending) ⌝ }
 {
     let finish = run(
         vertices,
@@ -115,6 +158,8 @@ pub fn closest_points(
         edges,
         heap_ids,
         heap_keys,
+        pending,
+        Walk::Plain,
         pos12,
         g1,
         g2,

@@ -5,7 +5,7 @@ ghost use lib.Ieee.{binary32};
 ghost use Rattle.vector.specs.declared.vec3.Vec3.{Vec3};
 ghost use Rattle.shape.specs.declared.vertex.Vertex.{Vertex};
 ghost use Rattle.epa_polytope.specs.Run.{bettered, hasConverged, isStuck, settle, visit};
-ghost use Rattle.epa_polytope.specs.Contracts.{Gives, visitOut, entryOf, lent, single, singleWorld};
+ghost use Rattle.epa_polytope.specs.Contracts.{Gives, visitOut, entryOf, lentAll, single, singleBy};
 use crate::expansion::expand;
 use epa_faces::answer_of;
 use epa_polytope::Best;
@@ -15,6 +15,7 @@ use epa_polytope::Found;
 use epa_polytope::Step;
 use epa_polytope::Tally;
 use epa_polytope::Visited;
+use epa_polytope::Walk;
 use epa_pushes::push_vertex;
 use epa_stores::normal_of;
 use shape::Shape;
@@ -59,15 +60,17 @@ fn settle(
     edges: &mut [usize],
     heap_ids: &mut [usize],
     heap_keys: &mut [f32],
+    pending: &mut [usize],
     tally: Tally,
+    walk: Walk,
     tol: f32,
     best: Best,
     face_id: FaceId,
     point: usize,
     candidate: f32,
 ) -> Visited
-    ensures { λ r. ⌜ ((supp : Vec3 → Vertex) → Gives visitOut (settle (record { numbers = single; supp = supp }) tol best (entryOf «face_id») point candidate) tally r
-        (λ m. lent m vertices ids floats deleted edges «heap_ids» «heap_keys»)) ⌝ }
+    ensures { λ r. ⌜ ((supp : Vec3 → Vertex) → Gives visitOut (settle (record { numbers = single; supp = supp; walkBy = walk }) tol best (entryOf «face_id») point candidate) tally r
+        (λ m. lentAll m vertices ids floats deleted edges «heap_ids» «heap_keys» pending)) ⌝ }
 {
     let face = face_id.id;
     let dist = -face_id.neg_dist;
@@ -94,7 +97,9 @@ fn settle(
         edges,
         heap_ids,
         heap_keys,
+        pending,
         tally,
+        walk,
         expansion,
     );
     match expanded {
@@ -119,7 +124,9 @@ pub fn visit(
     edges: &mut [usize],
     heap_ids: &mut [usize],
     heap_keys: &mut [f32],
+    pending: &mut [usize],
     tally: Tally,
+    walk: Walk,
     pos12: Pose,
     g1: Shape,
     g2: Shape,
@@ -127,8 +134,8 @@ pub fn visit(
     best: Best,
     face_id: FaceId,
 ) -> Visited
-    ensures { λ r. ⌜ Gives visitOut (visit (singleWorld pos12 g1 g2) tol best (entryOf «face_id»)) tally r
-        (λ m. lent m vertices ids floats deleted edges «heap_ids» «heap_keys») ⌝ }
+    ensures { λ r. ⌜ Gives visitOut (visit (singleBy walk pos12 g1 g2) tol best (entryOf «face_id»)) tally r
+        (λ m. lentAll m vertices ids floats deleted edges «heap_ids» «heap_keys» pending) ⌝ }
 {
     let normal = normal_of(floats, face_id.id);
     let cso_point = from_shapes(pos12, g1, g2, normal);
@@ -146,7 +153,9 @@ pub fn visit(
                 edges,
                 heap_ids,
                 heap_keys,
+                pending,
                 next,
+                walk,
                 tol,
                 best,
                 face_id,

@@ -15,14 +15,15 @@ use Rattle.simplex.specs.declared.voronoi_simplex.VoronoiSimplex.{VoronoiSimple
 use Rattle.epa_polytope.specs.declared.types.End.{End}
 use Rattle.epa_polytope.specs.declared.types.End.the-variants.{NoRoom as noRoom}
 use Rattle.epa_polytope.specs.declared.types.Store.{Store}
-use Rattle.epa_polytope.specs.declared.types.Store.the-variants.{Vertices as theVertices, Faces as theFaces, Edges as theEdges, Heap as theHeap}
+use Rattle.epa_polytope.specs.declared.types.Store.the-variants.{Vertices as theVertices, Faces as theFaces, Edges as theEdges, Heap as theHeap, Pending as thePending}
 use Rattle.epa_polytope.specs.Stores.{Lists, roomFor}
 use Rattle.epa_polytope.specs.Steps.{ended}
-use Rattle.epa_polytope.specs.Start.{worldOf}
+use Rattle.epa_polytope.specs.Start.{worldOf, walkedAs}
 use Rattle.epa_polytope.specs.Bounds.{Ample}
 use Rattle.epa_polytope.specs.Same.{Equivalent, equal, enough}
 use Rattle.epa_polytope.proofs.Demand3.{always-suffices}
 use Rattle.epa.specs.declared.types.Answer.{Answer}
+use Rattle.epa_polytope.specs.declared.types.Walk.the-variants.{Plain as plain}
 use Rattle.epa.specs.Final.{Final, penetration}
 use Rattle.epa.proofs.Ample.{reported, ample-penetration}
 use Rattle.epa.proofs.Agreement.{OneAnswer, penetrations-same}
@@ -40,6 +41,7 @@ module _ (l : Lists) where
   first-suffice theVertices = equal refl
   first-suffice theFaces = equal refl
   first-suffice theHeap = equal refl
+  first-suffice thePending = equal refl
   first-suffice theEdges = by (leb 206 (roomFor theEdges l)) refl
     where
       by : (b : Bool) → leb 206 (roomFor theEdges l) ≡ b → Equivalent (firstEdges l) l theEdges
@@ -51,18 +53,19 @@ module _ (l : Lists) where
   ample-first room theFaces = room theFaces
   ample-first room theEdges = many (room theEdges)
   ample-first room theHeap = room theHeap
+  ample-first room thePending = room thePending
 
 module _ (f : Format) (m : Pose) (g1 g2 : Shape) (x : VoronoiSimplex) (l : Lists) where
-  pub never-full : 206 ≤ roomFor theEdges l → onFirst (penetration f m g1 g2 x) l .answer .end ≡ noRoom theEdges → ⊥
+  pub never-full : 206 ≤ roomFor theEdges l → onFirst (penetration plain f m g1 g2 x) l .answer .end ≡ noRoom theEdges → ⊥
   never-full h e =
-      let z = reported f m g1 g2 x (firstEdges l) in
-      always-suffices (worldOf f m g1 g2) x (firstEdges l) theEdges (many l h) (z .stores)
+      let z = reported plain f m g1 g2 x (firstEdges l) in
+      always-suffices (walkedAs plain (worldOf f m g1 g2)) x (firstEdges l) theEdges (many l h) (z .stores)
       (z .ran ∙ ap (λ (q : End). ended q (z .stores)) (ap (λ (q : Final Answer). q .answer .end) (sym (z .told)) ∙ e))
 
-  -- LENT 105 VERTICES, 10,710 FACES, 206 RECORDS AND 10,710 HEAP ENTRIES, the answer is never a refusal for room
-  pub ample-records : Ample l → (y : Store) → onFirst (penetration f m g1 g2 x) l .answer .end ≡ noRoom y → ⊥
-  ample-records room y e = ample-penetration f m g1 g2 x (firstEdges l) (ample-first l room) y e
+  -- LENT 105 VERTICES, 10,710 FACES, 206 RECORDS, 10,710 HEAP ENTRIES AND 206 PENDING QUESTIONS, the answer is never a refusal for room
+  pub ample-records : Ample l → (y : Store) → onFirst (penetration plain f m g1 g2 x) l .answer .end ≡ noRoom y → ⊥
+  ample-records room y e = ample-penetration plain f m g1 g2 x (firstEdges l) (ample-first l room) y e
 
   -- THE RUN OVER RECORDS IS DOCUMENT 01'S, over all their numbers: the same answer, refusals too, and the same content up to the counts
-  pub first-is-all : OneAnswer f m g1 g2 x (firstEdges l) l
-  first-is-all = penetrations-same f m g1 g2 x (firstEdges l) l (first-suffice l)
+  pub first-is-all : OneAnswer plain f m g1 g2 x (firstEdges l) l
+  first-is-all = penetrations-same plain f m g1 g2 x (firstEdges l) l (first-suffice l)

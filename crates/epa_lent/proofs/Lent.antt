@@ -27,14 +27,14 @@ take-front : (xs ys : List ℕ) → take (length xs) (xs ++ ys) ≡ xs
 take-front [] ys = refl
 take-front (x ∷ xs) ys = ap {B = List ℕ} (λ r. x ∷ r) (take-front xs ys)
 
-pub row-back : {A : Type 0} {a : A} {v x hk : List Float} {i d hi : List ℕ} {y : Final A} (r : Row) (es rest : List ℕ) → Whole r → length es ≡ length (numbersOf r)
-    → final a (listsOf v i x d es hi hk) ≡ y → final a (listsOf v i x d (take (r .n * 2) (es ++ rest)) hi hk) ≡ y
-row-back {A} {a} {v} {x} {hk} {i} {d} {hi} r es rest whole same e =
-    ap (λ (us : List ℕ). final a (listsOf v i x d us hi hk)) (ap (λ (k : ℕ). take k (es ++ rest)) (pairs-lent r whole ∙ sym same) ∙ take-front es rest) ∙ e
+pub row-back : {A : Type 0} {a : A} {v x hk : List Float} {i d hi p : List ℕ} {y : Final A} (r : Row) (es rest : List ℕ) → Whole r → length es ≡ length (numbersOf r)
+    → final a (listsOf v i x d es hi hk p) ≡ y → final a (listsOf v i x d (take (r .n * 2) (es ++ rest)) hi hk p) ≡ y
+row-back {A} {a} {v} {x} {hk} {i} {d} {hi} {p} r es rest whole same e =
+    ap (λ (us : List ℕ). final a (listsOf v i x d us hi hk p)) (ap (λ (k : ℕ). take k (es ++ rest)) (pairs-lent r whole ∙ sym same) ∙ take-front es rest) ∙ e
 
-pub on-records : {A : Type 0} {a : A} {v x hk v' x' hk' : List Float} {i d hi i' d' hi' : List ℕ} (run : Lists → Final A) (es : List Edge) (r : Row) → length (r .pairs) ≡ 412 → r .n ≡ rowOf es .n
-    → final a (listsOf v' i' x' d' (numbersOf r) hi' hk') ≡ run (listsOf v i x d (numbersOf (rowOf es)) hi hk)
-    → final a (listsOf v' i' x' d' (pairsOf (published r es)) hi' hk') ≡ onFirst run (listsOf v i x d (pairsOf es) hi hk)
-on-records {A} {a} {v} {x} {hk} {v'} {x'} {hk'} {i} {d} {hi} {i'} {d'} {hi'} run es r full same e =
-    ap (λ (us : List ℕ). final a (listsOf v' i' x' d' us hi' hk')) (numbers-published r es full same)
-    ∙ ap (beyond (pairsOf es)) (e ∙ ap (λ (us : List ℕ). run (listsOf v i x d us hi hk)) (numbers-handed es))
+pub on-records : {A : Type 0} {a : A} {v x hk v' x' hk' : List Float} {i d hi p i' d' hi' p' : List ℕ} (run : Lists → Final A) (es : List Edge) (r : Row) → length (r .pairs) ≡ 412 → r .n ≡ rowOf es .n
+    → final a (listsOf v' i' x' d' (numbersOf r) hi' hk' p') ≡ run (listsOf v i x d (numbersOf (rowOf es)) hi hk p)
+    → final a (listsOf v' i' x' d' (pairsOf (published r es)) hi' hk' p') ≡ onFirst run (listsOf v i x d (pairsOf es) hi hk p)
+on-records {A} {a} {v} {x} {hk} {v'} {x'} {hk'} {i} {d} {hi} {p} {i'} {d'} {hi'} {p'} run es r full same e =
+    ap (λ (us : List ℕ). final a (listsOf v' i' x' d' us hi' hk' p')) (numbers-published r es full same)
+    ∙ ap (beyond (pairsOf es)) (e ∙ ap (λ (us : List ℕ). run (listsOf v i x d us hi hk p)) (numbers-handed es))

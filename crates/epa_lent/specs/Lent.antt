@@ -13,17 +13,17 @@ use Rattle.epa.specs.Final.{Final, final, listsOf}
 
 -- ---- the lists
 
--- as they are lent at a moment: six, and the records' numbers
-abbrev pub recordsLent : Moment → Lent Float → Lent ℕ → Lent Float → Lent ℕ → Lent Edge → Lent ℕ → Lent Float → Lists
-recordsLent m v i x d es hi hk = listsOf (when m v) (when m i) (when m x) (when m d) (pairsOf (when m es)) (when m hi) (when m hk)
+-- as they are lent at a moment: seven, and the records' numbers
+abbrev pub recordsLent : Moment → Lent Float → Lent ℕ → Lent Float → Lent ℕ → Lent Edge → Lent ℕ → Lent Float → Lent ℕ → Lists
+recordsLent m v i x d es hi hk p = listsOf (when m v) (when m i) (when m x) (when m d) (pairsOf (when m es)) (when m hi) (when m hk) (when m p)
 
--- six, and the numbers of a row, which one function is handed and another comes back from it
+-- seven, and the numbers of a row, which one function is handed and another comes back from it
 abbrev pub either : {X : Type 0} → Moment → X → X → X
 either called x y = x
 either returned x y = y
 
-abbrev pub rowLent : Moment → Lent Float → Lent ℕ → Lent Float → Lent ℕ → Row → Lent ℕ → Lent Float → Lists
-rowLent m v i x d r hi hk = listsOf (when m v) (when m i) (when m x) (when m d) (numbersOf r) (when m hi) (when m hk)
+abbrev pub rowLent : Moment → Lent Float → Lent ℕ → Lent Float → Lent ℕ → Row → Lent ℕ → Lent Float → Lent ℕ → Lists
+rowLent m v i x d r hi hk p = listsOf (when m v) (when m i) (when m x) (when m d) (numbersOf r) (when m hi) (when m hk) (when m p)
 
 -- ---- the run
 
@@ -35,6 +35,6 @@ firstEdges l = withEdges (take 412 (l .edges)) l
 abbrev pub beyond : {A : Type 0} → List ℕ → Final A → Final A
 beyond es x = final (x .answer) (withEdges (x .lists .edges ++ drop 412 es) (x .lists))
 
--- WHAT IS RUN ON SEVEN LISTS, run on the first 206 records of a store
+-- WHAT IS RUN ON EIGHT LISTS, run on the first 206 records of a store
 abbrev pub onFirst : {A : Type 0} → (Lists → Final A) → Lists → Final A
 onFirst run l = beyond (l .edges) (run (firstEdges l))

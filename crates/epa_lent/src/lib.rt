@@ -3,6 +3,7 @@
 ghost use mathlib.Core.Path.{_≡_};
 ghost use lib.Ieee.{binary32};
 ghost use Rattle.edges.specs.Edges.{Whole};
+ghost use Rattle.epa_polytope.specs.declared.types.Walk.the-variants.{Plain as plain};
 ghost use Rattle.epa.specs.Final.{Ends, penetration};
 ghost use Rattle.epa_lent.specs.Lent.{either, rowLent, recordsLent, onFirst};
 use edges::Edge;
@@ -30,14 +31,15 @@ fn run_row(
     row: Row,
     heap_ids: &mut [usize],
     heap_keys: &mut [f32],
+    pending: &mut [usize],
 ) -> Ran
     requires { ⌜ Whole row ⌝ }
-    ensures { λ r. ⌜ Ends (penetration binary32 pos12 g1 g2 simplex) (r .answer)
-        (λ m. rowLent m vertices ids floats deleted (either m row (r .row)) «heap_ids» «heap_keys») × (r .row .n ≡ row .n) ⌝ }
+    ensures { λ r. ⌜ Ends (penetration plain binary32 pos12 g1 g2 simplex) (r .answer)
+        (λ m. rowLent m vertices ids floats deleted (either m row (r .row)) «heap_ids» «heap_keys» pending) × (r .row .n ≡ row .n) ⌝ }
 {
     let mut pairs = row.pairs;
     let n = row.n;
-    let answer = epa::closest_points(
+    let answer = epa::closest_points_plain(
         pos12,
         g1,
         g2,
@@ -49,6 +51,7 @@ fn run_row(
         &mut pairs[..n * 2],
         heap_ids,
         heap_keys,
+        pending,
     );
     Ran {
         answer,
@@ -56,7 +59,7 @@ fn run_row(
     }
 }
 
-// `EPA::closest_points`.
+// `EPA::closest_points`, by the plain walk, over five stores.
 pub fn closest_points(
     pos12: Pose,
     g1: Shape,
@@ -69,9 +72,10 @@ pub fn closest_points(
     edges: &mut [Edge],
     heap_ids: &mut [usize],
     heap_keys: &mut [f32],
+    pending: &mut [usize],
 ) -> Answer
-    ensures { λ r. ⌜ Ends (onFirst (penetration binary32 pos12 g1 g2 simplex)) r
-        (λ m. recordsLent m vertices ids floats deleted edges «heap_ids» «heap_keys») ⌝ }
+    ensures { λ r. ⌜ Ends (onFirst (penetration plain binary32 pos12 g1 g2 simplex)) r
+        (λ m. recordsLent m vertices ids floats deleted edges «heap_ids» «heap_keys» pending) ⌝ }
 {
     let row = edges::row_of(edges);
     let ran = run_row(
@@ -86,6 +90,7 @@ pub fn closest_points(
         row,
         heap_ids,
         heap_keys,
+        pending,
     );
     edges::publish(edges, ran.row);
     ran.answer

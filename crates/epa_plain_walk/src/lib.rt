@@ -6,15 +6,17 @@ ghost use mathlib.Core.Bool.{false};
 ghost use Rattle.epa_polytope.specs.Stores.{withVertices, withFaceIds, withFaceFloats};
 ghost use Rattle.epa_polytope.specs.Silhouette.{walked};
 ghost use Rattle.epa_polytope.specs.PlainWalk.{walking, walkingBy, putIn, questionAt, without, answerQuestion, turn, plainWalk, plainPass};
-ghost use Rattle.epa_polytope.specs.Expansion.{meshOf};
+ghost use Rattle.epa_polytope.specs.Expansion.{meshOf, passBy};
 ghost use Rattle.epa_polytope.specs.Contracts.{Reads, single};
 ghost use Rattle.epa_polytope.specs.Code.{restsOf};
 use epa_faces::can_be_seen_by;
 use epa_faces::facing_at;
 use epa_polytope::PlainSoFar;
 use epa_polytope::Question;
+use epa_polytope::Walk;
 use epa_polytope::WalkAnswer;
 use epa_silhouette::note;
+use epa_silhouette::pass;
 use epa_stores::before;
 use epa_stores::deleted_at;
 use epa_stores::pair_at;
@@ -211,4 +213,64 @@ pub fn plain_pass(
     let second = put_in(deleted, edges, pending, third, b);
     let first = put_in(deleted, edges, pending, second, a);
     plain_walk(vertices, ids, floats, deleted, edges, pending, point, first)
+}
+
+// ---- by either walk
+
+// The recursive walk holds no question.
+pub fn pass_by(
+    vertices: &[f32],
+    ids: &[usize],
+    floats: &[f32],
+    deleted: &mut [u8],
+    edges: &mut [usize],
+    pending: &mut [usize],
+    walk: Walk,
+    point: usize,
+    missed: usize,
+    a: Question,
+    b: Question,
+    c: Question,
+) -> PlainSoFar
+    ensures { λ r. ⌜ Reads (λ l. passBy walk (meshOf single l point)
+        (walking (walked (now (deleted .entry)) (now (edges .entry)) missed (WalkAnswer.Done 0)) (now (pending .entry)) 0 false) a b c)
+        (walkingBy (now (deleted .exit)) (now (edges .exit)) (now (pending .exit)) r)
+        (λ k. withVertices (now (vertices .entry)) (withFaceIds (now (ids .entry)) (withFaceFloats (now (floats .entry)) k))) ⌝ }
+{
+    match walk {
+        Walk::Recursive => {
+            let walked = pass(
+                vertices,
+                ids,
+                floats,
+                deleted,
+                edges,
+                point,
+                missed,
+                a,
+                b,
+                c,
+            );
+            let answer = walked.answer;
+            PlainSoFar {
+                answer,
+                missed: walked.missed,
+                held: 0,
+                short: false,
+            }
+        }
+        Walk::Plain => plain_pass(
+            vertices,
+            ids,
+            floats,
+            deleted,
+            edges,
+            pending,
+            point,
+            missed,
+            a,
+            b,
+            c,
+        ),
+    }
 }

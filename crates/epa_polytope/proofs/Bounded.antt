@@ -108,10 +108,10 @@ module _ (w : World) (x : VoronoiSimplex) (l : Lists) (k : ℕ) (few : k ≤ 100
 
   pass-both : Passed before after
   unfolding thePass
-  pass-both = subst (Passed before) (p .passes) (pass-law (w .numbers) (p .passing .expansion .point) (p .passing .expansion .face) before (passable .sound .neighboursIn) (passable .faceIn))
+  pass-both = subst (Passed before) (p .passes) (pass-law (w .walkBy) (w .numbers) (p .passing .expansion .point) (p .passing .expansion .face) before (passable .sound .neighboursIn) (passable .faceIn))
 
   pub pass-records : FewEdges before after
-  pass-records = record { fromNone = passable .noEdges; noneLive = pass-both .noneLive; threeMore = omega (arith, pass-both .noneLive, pass-both .threeMore) }
+  pass-records = record { fromNone = passable .clean .0; noneLive = pass-both .noneLive; threeMore = omega (arith, pass-both .noneLive, pass-both .threeMore) }
 
   pub under-way : Within (facesAtStart x) (k + 1) before × Within (facesAtStart x) (k + 1) after
   under-way = rw (add-one k) (passable .stage .within, later)
@@ -137,7 +137,7 @@ module _ (w : World) (x : VoronoiSimplex) (l : Lists) (k : ℕ) (few : k ≤ 100
   lined : Lined J (facesAtStart x) k (u .point) (g .before .tally .faces) after
   unfolding thePass
   lined =
-      (rw (g .goesOn) at (meets-silhouette J nothing-kept (facesAtStart x) (w .numbers) k u (u .face) (g .before .tally .faces) (g .before) (passable w x l k few (g .before) after (g .pass)))) .held
+      (rw (g .goesOn) at (meets-silhouette J nothing-kept (facesAtStart x) (w .numbers) k u (w .walkBy) (u .face) (g .before .tally .faces) (g .before) (passable w x l k few (g .before) after (g .pass)))) .held
 
   -- the faces of i edges are made, and those of the others are left
   grown-to : Growing J (facesAtStart x) k (u .point) (after .tally .faces) (after .tally .edges) (after .tally .edges - i) t
@@ -175,7 +175,7 @@ module _ (w : World) (x : VoronoiSimplex) (l : Lists) where
       by (onward g v) m z p =
           let h = m .held .ready in
           (rw p at (rest-counts k (101 - k) (omega arith) g v
-          (record { ready = record { sound = h .sound; within = h .within; completed = h .completed; noEdges = h .noEdges; kept = omega (arith, h .completed) }; bestIn = m .held .bestIn }))) .held .kept
+          (record { ready = record { sound = h .sound; within = h .within; completed = h .completed; clean = h .clean; kept = omega (arith, h .completed) }; bestIn = m .held .bestIn }))) .held .kept
 
 module _ (w : World) (x : VoronoiSimplex) (l : Lists) where
   abbrev CE : End → State → Type 0

@@ -5,14 +5,15 @@ use Prim.Native.Nat.{ℕ, zero, suc, _+_, _≤_}
 use native.Mathlib.Omega.{arith}
 use lib.Ieee.{Float}
 use Rattle.heap.specs.Heap.{Entry}
-use Rattle.epa_polytope.specs.Silhouette.{Walked, facing, pass, WalkAnswer}
+use mathlib.Core.Bool.{Bool, true, false}
+use Rattle.epa_polytope.specs.Silhouette.{WalkAnswer}
 use Rattle.epa_polytope.specs.Start.{World}
 use Rattle.epa_polytope.specs.Stores.{State}
 use Rattle.epa_polytope.specs.Steps.{End, Found, converged, stuck, newFaceNearer, heapEmpty, _>>=_, _>>_, look, put, answer}
-use Rattle.epa_polytope.specs.Expansion.{Expansion, delete, queueNew, growAt, grow, growAll, clearEdges, closeRing, regrow, expand, meshOf, beforePass, passed, silhouette}
+use Rattle.epa_polytope.specs.Expansion.{Expansion, delete, queueNew, growAt, grow, growAll, clearEdges, closeRing, regrow, expand, passedIf, silhouette}
 use Rattle.epa_polytope.specs.Run.{Best, popEntry, popLive, settle, visit, visitIf, complete, iterate}
 use Rattle.epa_polytope.proofs.Steps.{Meets, goes, ends, meets-bind, meets-then, meets-look, meets-put, meets-pure, meets-ok, meets-stop, meets-stopIf, meets-doIf, meets-branch, meets-link, meets-face, meets-queue, meets-vertex}
-use Rattle.epa_polytope.proofs.Moves.{Keeps, left}
+use Rattle.epa_polytope.proofs.Moves.{Keeps, left, passFrom, withPass}
 use Rattle.epa_polytope.specs.Silhouette.{Done, NoRoom}
 
 -- ---- the expansions that a run counts are those it completes
@@ -38,7 +39,7 @@ done-moves k = record {
   onQueue = λ s e _ _ h. h;
   onPop = λ s n _ h. h;
   onDelete = λ s i _ h. done-delete k s i h;
-  onPass = λ w s p i _ _ _ h. h;
+  onPass = λ y w s p i _ _ _ h. h;
   onLink = λ s i c j _ _ h. h;
   onClear = λ s h. done-clear k s h;
   onComplete = λ s h. done-complete k s h;
@@ -68,17 +69,17 @@ module _ (w : World) (k : ℕ) where
   unfolding delete
   done-gone i t h = meets-look DE _ _ t (meets-put DE _ _ t h)
 
-  done-passed : (t : State) (p : Walked) (a : WalkAnswer) → t .tally .done ≡ k → Meets D DE (passed t p a)
-  done-passed t p (Done n) h = goes h
-  done-passed t p NoRoom h = ends h
+  done-passed : (b : Bool) (a : WalkAnswer) (t : State) → t .tally .done ≡ k → Meets D DE (passedIf b a t)
+  done-passed true (Done n) t h = ends h
+  done-passed true NoRoom t h = ends h
+  done-passed false (Done n) t h = goes h
+  done-passed false NoRoom t h = ends h
 
-  done-silhouette : (p i : ℕ) (t : State) → t .tally .done ≡ k → Meets D DE (silhouette (w .numbers) p i t)
+  done-silhouette : (p i : ℕ) (t : State) → t .tally .done ≡ k → Meets D DE (silhouette (w .walkBy) (w .numbers) p i t)
   unfolding silhouette
   done-silhouette p i t h =
-      let l = t .lists in
-      let ids = l .faceIds in
-      let u = pass (meshOf (w .numbers) l p) (beforePass t i) (facing ids i 0) (facing ids i 1) (facing ids i 2) in
-      done-passed t u (u .answer) h
+      let u = passFrom (w .walkBy) (w .numbers) t p i in
+      done-passed (u .short) (u .walk .answer) (withPass (w .walkBy) (w .numbers) t p i) h
 
   done-queueNew : (u : Expansion) (i : ℕ) (t : State) → t .tally .done ≡ k → Meets D DE (queueNew (w .numbers) u i t)
   unfolding queueNew

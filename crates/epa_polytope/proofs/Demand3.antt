@@ -5,15 +5,16 @@ use mathlib.Core.Option.{some}
 use Prim.Native.Nat.{ℕ, _+_, _*_, _<_, _≤_}
 use native.Mathlib.Omega.{arith}
 use lib.ListN.{length}
-use Rattle.epa_polytope.specs.Stores.{Lists, State, Store, theVertices, theFaces, theEdges, theHeap, roomFor}
+use Rattle.epa_polytope.specs.Stores.{Lists, State, Store, theVertices, theFaces, theEdges, theHeap, thePending, roomFor}
 use Rattle.epa_polytope.specs.Steps.{End, noRoom, onward, ended}
-use Rattle.epa_polytope.specs.Start.{World, VoronoiSimplex}
+use Rattle.epa_polytope.specs.Start.{recursive, World, VoronoiSimplex}
 use Rattle.epa_polytope.specs.Run.{run}
-use Rattle.epa_polytope.specs.Bounds.{facesAtStart, Within, suffices, Ample}
+use Rattle.epa_polytope.specs.Bounds.{facesAtStart, Within, suffices, Ample, AmpleFour}
 use Rattle.epa_polytope.specs.Demand3.{Completes, stateAfter, WithinAtEnd, Pass, FewEdges, Growth, Joined, upToQueue}
 use Rattle.epa_polytope.proofs.Start as Start
 use Rattle.epa_polytope.proofs.Lengths as Lengths
 use Rattle.epa_polytope.proofs.Bounded as Bounded
+use Rattle.epa_polytope.proofs.Panics as Panics
 
 module _ (w : World) (x : VoronoiSimplex) (l : Lists) where
   -- A RUN THAT COMES TO ITS FIRST EXPANSION has made its f starting faces
@@ -63,10 +64,19 @@ module _ (w : World) (x : VoronoiSimplex) (l : Lists) where
   pub never-refused : Ample l → (y : Store) (t : State) → run w x l ≡ ended (noRoom y) t → ⊥
   never-refused enough y = always-suffices y (enough y)
 
+  -- by the recursive walk, with no place for a question
+  pub four-suffice : w .walkBy ≡ recursive → AmpleFour l → (y : Store) (t : State) → run w x l ≡ ended (noRoom y) t → ⊥
+  four-suffice e enough theVertices t q = always-suffices theVertices (enough theVertices (λ z. let n : _≡_ {A = ℕ} 0 1 = cc in absurd (omega arith))) t q
+  four-suffice e enough theFaces t q = always-suffices theFaces (enough theFaces (λ z. let n : _≡_ {A = ℕ} 0 1 = cc in absurd (omega arith))) t q
+  four-suffice e enough theEdges t q = always-suffices theEdges (enough theEdges (λ z. let n : _≡_ {A = ℕ} 0 1 = cc in absurd (omega arith))) t q
+  four-suffice e enough theHeap t q = always-suffices theHeap (enough theHeap (λ z. let n : _≡_ {A = ℕ} 0 1 = cc in absurd (omega arith))) t q
+  four-suffice e enough thePending t q = let p = Panics.refused-by-plain w x l t q in let z : _≡_ {A = ℕ} 0 1 = cc in absurd (omega arith)
+
 -- the room, by the lengths of the lists
 pub lent-ample : (l : Lists) → 105 * 9 ≤ length (l .vertices) → 10710 * 6 ≤ length (l .faceIds) → 10710 * 6 ≤ length (l .faceFloats) → 10710 ≤ length (l .deleted)
-    → 206 * 2 ≤ length (l .edges) → 10710 ≤ length (l .heapIds) → 10710 ≤ length (l .heapKeys) → Ample l
-lent-ample l v i n d e hf hk theVertices = omega arith
-lent-ample l v i n d e hf hk theFaces = omega arith
-lent-ample l v i n d e hf hk theEdges = omega arith
-lent-ample l v i n d e hf hk theHeap = omega arith
+    → 206 * 2 ≤ length (l .edges) → 10710 ≤ length (l .heapIds) → 10710 ≤ length (l .heapKeys) → 206 * 2 ≤ length (l .pending) → Ample l
+lent-ample l v i n d e hf hk p theVertices = omega arith
+lent-ample l v i n d e hf hk p theFaces = omega arith
+lent-ample l v i n d e hf hk p theEdges = omega arith
+lent-ample l v i n d e hf hk p theHeap = omega arith
+lent-ample l v i n d e hf hk p thePending = omega arith

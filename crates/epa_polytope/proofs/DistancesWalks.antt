@@ -17,16 +17,16 @@ use Rattle.heap.specs.Ordered.{Held, NotNan, AtMost, Ordered}
 use Rattle.heap.proofs.Ordered.{pushed-held, pushed-ordered}
 use Rattle.heap.proofs.Multiset.{not-nan-before}
 use Rattle.epa_polytope.specs.Stores.{State, Lists, Made, Three, stateOf, noneYet, roomFor, theHeap, heapOf, vertexAt, normalAt, pointAt, cornerAt}
-use Rattle.epa_polytope.specs.Silhouette.{Walked, WalkAnswer, Done, NoRoom}
+use Rattle.epa_polytope.specs.Silhouette.{WalkAnswer, Done, NoRoom}
 use Rattle.epa_polytope.specs.Steps.{End, answers, nothing, panics, noRoom, Found, Lost, keyAtStart, noneHolds, noSilhouette, allDeleted, keyLater, Out, onward, ended, Nil}
 use Rattle.epa_polytope.specs.Steps.{Numbers, pushVertex, pushFace, enqueue, queueFace, answerOf, answer}
-use Rattle.epa_polytope.specs.Start.{World, formatOf, VoronoiSimplex, pushPoints, firstFar, second, bootstrap, startVertices, distTol, exchange, fourFaces, queueStart, queueFour, startFour, third}
+use Rattle.epa_polytope.specs.Start.{Walk, World, formatOf, VoronoiSimplex, pushPoints, firstFar, second, bootstrap, startVertices, distTol, exchange, fourFaces, queueStart, queueFour, startFour, third}
 use Rattle.epa_polytope.specs.Start.{twoFaces, startTwo, startFaces, begin}
-use Rattle.epa_polytope.specs.Expansion.{Expansion, delete, passed, silhouette, link, queueNew, grow, growAll, clearEdges, closeRing, regrow}
+use Rattle.epa_polytope.specs.Expansion.{Expansion, delete, passedIf, silhouette, link, queueNew, grow, growAll, clearEdges, closeRing, regrow}
 use Rattle.epa_polytope.specs.Run.{complete, popLive}
 use Rattle.epa_polytope.specs.Demand3.{Carried, opened, runTo, oneMore, Passing, upToPassOf, upToPass, thePass, afterThePass, Joined, joinedAt, upToQueue, queueJoined}
 use Rattle.epa_polytope.specs.Distances.{along, Every, keyOf, keysOfEdges, keysOfExpansion}
-use Rattle.epa_polytope.proofs.Moves.{withEntry, passFrom}
+use Rattle.epa_polytope.proofs.Moves.{withEntry, passFrom, withPass}
 use Rattle.epa_polytope.proofs.Tolerance.{tolerance-above-zero}
 use Rattle.epa_polytope.proofs.Stages.{expansion-by-pass, edge-by-pushes}
 use Rattle.epa_polytope.proofs.Steps.{Meets, goes, ends, meets-bind, meets-then, meets-look, meets-pure, meets-put, meets-ok, meets-stop, meets-stopIf, meets-doIf, meets-branch}
@@ -125,13 +125,15 @@ module _ (I : Heap → Type 0) where
   unfolding delete
   keep-delete i s h = meets-look NotLater _ _ s (meets-put NotLater _ _ s h)
 
-  keep-passed : (s : State) (t : Walked) (a : WalkAnswer) → I (heapOf s) → Meets (λ _ t. I (heapOf t)) NotLater (passed s t a)
-  keep-passed s t (Done n) h = goes h
-  keep-passed s t NoRoom h = ends tt
+  keep-passed : (b : Bool) (a : WalkAnswer) (t : State) → I (heapOf t) → Meets (λ _ t. I (heapOf t)) NotLater (passedIf b a t)
+  keep-passed true (Done n) t h = ends tt
+  keep-passed true NoRoom t h = ends tt
+  keep-passed false (Done n) t h = goes h
+  keep-passed false NoRoom t h = ends tt
 
-  keep-silhouette : (w : Numbers) (p i : ℕ) (s : State) → I (heapOf s) → Meets (λ _ t. I (heapOf t)) NotLater (silhouette w p i s)
+  keep-silhouette : (y : Walk) (w : Numbers) (p i : ℕ) (s : State) → I (heapOf s) → Meets (λ _ t. I (heapOf t)) NotLater (silhouette y w p i s)
   unfolding silhouette
-  keep-silhouette w p i s h = keep-passed s (passFrom w s p i) (passFrom w s p i .answer) h
+  keep-silhouette y w p i s h = let t = passFrom y w s p i in keep-passed (t .short) (t .walk .answer) (withPass y w s p i) h
 
   keep-clear : (s : State) → I (heapOf s) → Meets (λ _ t. I (heapOf t)) NotLater (clearEdges s)
   unfolding clearEdges
@@ -332,5 +334,5 @@ module _ (w : World) (tol k : Float) (real : NotNan k) (low : AtMost tol k) (Q :
         (meets-bind NotLater (λ p t. Before p t × Every Q (along (thePass w p t) (λ _ v. keysOfEdges (w .numbers) (p .expansion) (v .tally .edges) 0 v))) _ _ _ s
         (meets-along Q _ (λ p t. along (thePass w p t) (λ _ v. keysOfEdges (w .numbers) (p .expansion) (v .tally .edges) 0 v)) q (meets-upToPass s m)) λ p t y.
         meets-then NotLater (λ _ v. I (heapOf v) × Every Q (keysOfEdges (w .numbers) (p .expansion) (v .tally .edges) 0 v)) _ _ _ t
-        (meets-along Q _ (λ _ v. keysOfEdges (w .numbers) (p .expansion) (v .tally .edges) 0 v) (y .1) (keep-silhouette I (w .numbers) (p .expansion .point) (p .expansion .face) t (y .0 .1))) λ _ v z.
+        (meets-along Q _ (λ _ v. keysOfEdges (w .numbers) (p .expansion) (v .tally .edges) 0 v) (y .1) (keep-silhouette I (w .walkBy) (w .numbers) (p .expansion .point) (p .expansion .face) t (y .0 .1))) λ _ v z.
         meets-afterThePass p v (y .0 .0) (z .1) (z .0))

@@ -1,24 +1,29 @@
 -- One expansion: the polytope stays sound, grows by no more than it may, and keeps what every move keeps. Assumes nothing.
-use mathlib.Core.Path.{_≡_, refl, subst}
+use mathlib.Core.Path.{_≡_, refl, sym, ap, subst, _∙_}
+use mathlib.Core.Bool.{Bool, true, false, cond}
 use mathlib.Core.List.{List}
 use mathlib.Core.Option.{some}
-use Prim.Native.Nat.{ℕ, zero, suc, _+_, _-_, _*_, _%_, _<_, _≤_}
+use Prim.Native.Nat.{ℕ, zero, suc, _+_, _-_, _*_, _/_, _%_, _<_, _≤_}
 use native.Mathlib.Omega.{arith}
-use native.Mathlib.Decide.{ℕ-discrete}
+use native.Mathlib.Decide.{ℕ-discrete, decLe}
 use lib.ListN.{getD, length}
 use lib.Seq.{getD-set-other}
 use borrow.Author.Tests.{eqb-false}
 use Rattle.heap.specs.Heap.{Entry}
-use Rattle.epa_polytope.specs.Silhouette.{WalkAnswer, Done, NoRoom, Walked, facing, pass}
-use Rattle.epa_polytope.specs.Stores.{State, theEdges, liveTo, live, cornerAt, Made, roomFor, theFaces, neighbourIn, linkedIn, theHeap, heapOf}
+use Rattle.epa_polytope.specs.Silhouette.{WalkAnswer, Done, NoRoom, facing, recordedOf}
+use Rattle.epa_polytope.specs.PlainWalk.{Walking}
+use Rattle.epa_polytope.specs.Start.{Walk}
+use Rattle.epa_polytope.specs.Stores.{State, theEdges, thePending, liveTo, live, cornerAt, Made, roomFor, theFaces, neighbourIn, linkedIn, theHeap, heapOf}
 use Rattle.epa_polytope.specs.Steps.{End, noRoom, keyLater, Found, newFaceNearer, _>>=_, _>>_, Nil, look, put, doIf, pushFace, answerOf, answer, madeOf, three, Numbers}
-use Rattle.epa_polytope.specs.Expansion.{delete, meshOf, beforePass, afterPass, passed, silhouette, link, Expansion, queueNew, growAt, grow, growAll, clearEdges, expand, regrow, closeRing}
+use Rattle.epa_polytope.specs.Expansion.{delete, meshOf, beforePass, afterPass, passedIf, passed, silhouette, link, Expansion, queueNew, growAt, grow, growAll, clearEdges, expand, regrow, closeRing}
 use Rattle.epa_polytope.specs.Bounds.{Good, Sound, bound, Within, Tight, with-all, Part, theLoop, underWay, underWayFound, Ended, FromPoint, CornersIn, NeighboursIn}
 use Rattle.epa_polytope.proofs.Basics.{at-set, in-set, all-as, EdgesIn, no-edges, corners-linked, neighbours-linked, neighbours-as, corners-put, neighbours-put, but-second, live-delete, live-push}
 use Rattle.epa_polytope.proofs.Sizes.{bound-suc}
 use Rattle.epa_polytope.proofs.Heaps.{good-pushed}
-use Rattle.epa_polytope.proofs.Walks.{asked-facing, askedOf, recordedOf, Recorded, same-room-pass, spent-pass, kept-pass}
-use Rattle.epa_polytope.proofs.Moves.{Keeps, withLink, withFace, withEntry}
+use Rattle.epa_polytope.proofs.Walks.{askedOf, Recorded}
+use Rattle.epa_polytope.proofs.PlainPasses.{Steady}
+use Rattle.epa_polytope.proofs.EitherWalk.{steady-here, none-left}
+use Rattle.epa_polytope.proofs.Moves.{Keeps, passFrom, withLink, withFace, withEntry}
 use Rattle.epa_polytope.proofs.Steps.{Meets, goes, ends, meets-then, meets-look, meets-ok, meets-stop, meets-stopIf, meets-doIf, meets-link, meets-face, meets-queue, meets-branch, meets-map}
 
 module _ (J : State → Type 0) where
@@ -29,7 +34,7 @@ module _ (J : State → Type 0) where
     pub sound : Sound s
     pub within : Within f k s
     pub completed : s .tally .done ≡ k
-    pub noEdges : s .tally .edges ≡ 0
+    pub clean : (s .tally .edges ≡ 0) × (s .tally .pending ≡ 0)
     pub kept : J s
 
   -- the new faces are linked, and the edges cleared; the expansion is not counted yet
@@ -37,7 +42,7 @@ module _ (J : State → Type 0) where
     pub sound : Sound s
     pub within : Within f (suc k) s
     pub completed : s .tally .done ≡ k
-    pub noEdges : s .tally .edges ≡ 0
+    pub clean : (s .tally .edges ≡ 0) × (s .tally .pending ≡ 0)
     pub kept : J s
 
   -- what every stage has
@@ -56,7 +61,7 @@ module _ (J : State → Type 0) where
     pub faceLive : getD (s .lists .deleted) i 1 ≡ 0
     pub oldLive : live s ≤ f + 2 * k
     pub oldMade : s .tally .faces ≤ bound f k
-    pub noEdges : s .tally .edges ≡ 0
+    pub clean : (s .tally .edges ≡ 0) × (s .tally .pending ≡ 0)
 
   -- the face i is deleted
   pub record Deleted (f k p i n : ℕ) (s : State) : Type 0 where
@@ -66,7 +71,7 @@ module _ (J : State → Type 0) where
     pub faceIn : i < s .tally .faces
     pub lessLive : suc (live s) ≤ f + 2 * k
     pub oldMade : s .tally .faces ≤ bound f k
-    pub noEdges : s .tally .edges ≡ 0
+    pub clean : (s .tally .edges ≡ 0) × (s .tally .pending ≡ 0)
 
   -- n edges are recorded
   pub record Lined (f k p n : ℕ) (s : State) : Type 0 where
@@ -74,6 +79,7 @@ module _ (J : State → Type 0) where
     pub same : s .tally .faces ≡ n
     pub sound : Sound s
     pub edgesIn : EdgesIn (s .tally .faces) (s .tally .edges) (s .lists .edges)
+    pub nonePending : s .tally .pending ≡ 0
     pub roomLive : live s + s .tally .edges ≤ f + 2 * suc k
     pub roomMade : s .tally .faces + s .tally .edges ≤ bound f (suc k)
 
@@ -88,6 +94,7 @@ module _ (J : State → Type 0) where
     pub queueIn : Good (s .tally .faces) (s .tally .heap) (heapOf s)
     pub queueFew : s .tally .heap ≤ s .tally .faces
     pub edgesIn : EdgesIn first all (s .lists .edges)
+    pub nonePending : s .tally .pending ≡ 0
     pub allIn : all ≤ s .tally .edges
     pub roomLive : live s + left ≤ f + 2 * suc k
     pub roomMade : s .tally .faces + left ≤ bound f (suc k)
@@ -137,63 +144,78 @@ module _ (J : State → Type 0) where
             faceIn = h .faceIn;
             lessLive = omega (arith, h .oldLive);
             oldMade = h .oldMade;
-            noEdges = h .noEdges;
+            clean = h .clean;
           })
 
       -- ---- the silhouette
 
-      meets-passed : (s : State) (t : Walked) (a : WalkAnswer) (i n : ℕ) → Deleted f k (u .point) i n s → length (t .edges) ≡ length (s .lists .edges)
-          → askedOf (roomFor theEdges (s .lists)) a + liveTo (s .tally .faces) (t .deleted) ≤ live s + 3 → Recorded (s .tally .faces) t a
-          → J (afterPass s t (recordedOf (roomFor theEdges (s .lists)) a)) → Meets (λ _ t. Lined f k (u .point) n t) E (passed s t a)
-      meets-passed s t (Done e) i n h same few ins j =
+      -- a pass by either walk, over the pending list as it is
+      abbrev passes : Walk → State → ℕ → Walking
+      passes y s i = passFrom y w s (u .point) i
+
+      abbrev Kept : State → ℕ → Walking → Type 0
+      Kept s i t = Steady (s .tally .faces) (beforePass s i .walk) (s .lists .pending) (live s + 3) 0 t
+
+      passed-stage : (s : State) (t : Walking) (i n e : ℕ) → Deleted f k (u .point) i n s → Kept s i t → e ≤ live s + 3 → J (afterPass s t e) → Stage f k (u .point) (afterPass s t e)
+      passed-stage s t i n e h st few j =
           let g = h .stage in
           let v = g .within in
-          let x = h .sound in
-          goes (record {
-            stage = record {
-              completed = g .completed;
-              early = g .early;
-              within = record { fewVerts = v .fewVerts; fewLive = omega (arith, h .lessLive); fewMade = v .fewMade; fewEdges = omega (arith, h .lessLive, v .fewEdges); fewQueued = v .fewQueued };
-              pointIn = g .pointIn;
-              kept = j;
-            };
-            sound = record { some = x .some; neighboursIn = x .neighboursIn; cornersIn = x .cornersIn; queueIn = x .queueIn; queueFew = x .queueFew };
-            same = h .same;
-            edgesIn = ins;
-            roomLive = omega (arith, h .lessLive);
-            roomMade = omega (arith, h .lessLive, h .oldMade, bound-suc f k);
-          })
-      meets-passed s t NoRoom i n h same few ins j =
-          let g = h .stage in
-          let v = g .within in
-          ends (end-stage (noRoom theEdges) (afterPass s t (roomFor theEdges (s .lists)))
-          (record {
+          record {
             completed = g .completed;
             early = g .early;
-            within = record { fewVerts = v .fewVerts; fewLive = omega (arith, h .lessLive); fewMade = v .fewMade; fewEdges = omega (arith, h .lessLive, v .fewEdges); fewQueued = v .fewQueued };
+            within = record { fewVerts = v .fewVerts; fewLive = omega (arith, h .lessLive, st .fewer); fewMade = v .fewMade; fewEdges = omega (arith, h .lessLive, v .fewEdges); fewQueued = v .fewQueued };
             pointIn = g .pointIn;
             kept = j;
-          })
-          (rw same (omega (arith, h .lessLive)))
-          refl)
+          }
 
-      pub meets-silhouette : (i n : ℕ) (s : State) → Deleted f k (u .point) i n s → Meets (λ _ t. Lined f k (u .point) n t) E (silhouette w (u .point) i s)
+      -- no place for a question: there are fewer than the questions that could come
+      short-of : (s : State) (t : Walking) (i n : ℕ) → Deleted f k (u .point) i n s → Kept s i t → t .short ≡ true → length (s .lists .pending) / 2 < f + 2 * suc k
+      short-of s t i n h st e = by (decLe (live s + 3) (length (s .lists .pending) / 2))
+        where
+          by : Dec (live s + 3 ≤ length (s .lists .pending) / 2) → length (s .lists .pending) / 2 < f + 2 * suc k
+          by (yes l) = let z : _≡_ {A = ℕ} 1 0 = ap (λ (b : Bool). cond b 1 0) (sym e ∙ st .roomy l) in let no : ⊥ = omega arith in absurd no
+          by (no l) = below (h .lessLive) l
+            where
+              below : suc (live s) ≤ f + 2 * k → (live s + 3 ≤ length (s .lists .pending) / 2 → ⊥) → length (s .lists .pending) / 2 < f + 2 * suc k
+              below a l = omega arith
+
+      meets-passed : (s : State) (t : Walking) (i n : ℕ) → Deleted f k (u .point) i n s → Kept s i t → ((e : ℕ) → t .short ≡ false → t .walk .answer ≡ Done e → t .held ≡ 0)
+          → J (afterPass s t (recordedOf (roomFor theEdges (s .lists)) (t .walk .answer))) → Meets (λ _ t. Lined f k (u .point) n t) E (passed s t)
+      meets-passed s t i n h st left j = by (t .short) (t .walk .answer) refl refl j
+        where
+          R : ℕ
+          R = roomFor theEdges (s .lists)
+
+          by : (b : Bool) (a : WalkAnswer) → t .short ≡ b → t .walk .answer ≡ a → J (afterPass s t (recordedOf R a)) → Meets (λ _ t. Lined f k (u .point) n t) E (passedIf b a (afterPass s t (recordedOf R a)))
+          by false (Done e) eb ea j =
+              let x = h .sound in
+              let few = ap (askedOf R) ea in
+              goes (record {
+                stage = passed-stage s t i n e h st (omega (arith, st .few, few)) j;
+                sound = record { some = x .some; neighboursIn = x .neighboursIn; cornersIn = x .cornersIn; queueIn = x .queueIn; queueFew = x .queueFew };
+                same = h .same;
+                edgesIn = subst (λ (a : WalkAnswer). Recorded (s .tally .faces) (t .walk) a) ea (st .recorded);
+                nonePending = left e eb ea;
+                roomLive = omega (arith, h .lessLive, st .few, few);
+                roomMade = omega (arith, h .lessLive, h .oldMade, bound-suc f k, st .few, few);
+              })
+          by false NoRoom eb ea j =
+              let few = ap (askedOf R) ea in
+              ends (end-stage (noRoom theEdges) (afterPass s t R) (passed-stage s t i n R h st (omega (arith, st .few, few)) j) (rw (st .reached .sameRoom) (omega (arith, h .lessLive, st .few, few))) refl)
+          by true (Done e) eb ea j =
+              let few = ap (askedOf R) ea in
+              ends (end-stage (noRoom thePending) (afterPass s t e) (passed-stage s t i n e h st (omega (arith, st .few, few)) j) (rw (st .places) (short-of s t i n h st eb)) refl)
+          by true NoRoom eb ea j =
+              let few = ap (askedOf R) ea in
+              ends (end-stage (noRoom thePending) (afterPass s t R) (passed-stage s t i n R h st (omega (arith, st .few, few)) j) (rw (st .places) (short-of s t i n h st eb)) refl)
+
+      pub meets-silhouette : (y : Walk) (i n : ℕ) (s : State) → Deleted f k (u .point) i n s → Meets (λ _ t. Lined f k (u .point) n t) E (silhouette y w (u .point) i s)
       unfolding silhouette
-      meets-silhouette i n s h =
-          let N = s .tally .faces in
-          let l = s .lists in
-          let ids = l .faceIds in
-          let m = meshOf w l (u .point) in
-          let s0 = beforePass s i in
-          let a = h .sound .neighboursIn in
-          let y0 = asked-facing ids N a i 0 (h .faceIn) (omega arith) in
-          let y1 = asked-facing ids N a i 1 (h .faceIn) (omega arith) in
-          let y2 = asked-facing ids N a i 2 (h .faceIn) (omega arith) in
-          let t = pass m s0 (facing ids i 0) (facing ids i 1) (facing ids i 2) in
-          meets-passed s t (t .answer) i n h (same-room-pass m s0 (facing ids i 0) (facing ids i 1) (facing ids i 2))
-          (omega (arith, spent-pass m N a s0 (facing ids i 0) (facing ids i 1) (facing ids i 2) y0 y1 y2 (roomFor theEdges l) refl))
-          (kept-pass m N a s0 (facing ids i 0) (facing ids i 1) (facing ids i 2) y0 y1 y2 (no-edges N (l .edges)))
-          (K .onPass w s (u .point) i a (h .faceIn) (h .noEdges) (h .stage .kept))
+      meets-silhouette y i n s h =
+          let ids = s .lists .faceIds in
+          meets-passed s (passes y s i) i n h (steady-here y w s (u .point) i (h .sound .neighboursIn) (h .faceIn))
+          (λ e eb ea. none-left y (meshOf w (s .lists) (u .point)) (beforePass s i .walk) (s .lists .pending) (facing ids i 0) (facing ids i 1) (facing ids i 2) eb ea)
+          (K .onPass y w s (u .point) i (h .sound .neighboursIn) (h .faceIn) (h .clean) (h .stage .kept))
 
       module _ (first all : ℕ) where
         -- ---- a new face
@@ -240,6 +262,7 @@ module _ (J : State → Type 0) where
                   queueIn = record { counts = refl; each = all-as _ n (n + 1) _ _ (omega arith) (omega arith) (h .queueIn .each) };
                   queueFew = omega (arith, h .queueFew);
                   edgesIn = h .edgesIn;
+                  nonePending = h .nonePending;
                   allIn = h .allIn;
                   roomLive = omega (arith, h .roomLive);
                   roomMade = omega (arith, h .roomMade);
@@ -271,6 +294,7 @@ module _ (J : State → Type 0) where
               queueIn = record { counts = refl; each = rw (gp .counts) (gp .each) };
               queueFew = omega (arith, gp .counts);
               edgesIn = h .edgesIn;
+              nonePending = h .nonePending;
               allIn = h .allIn;
               roomLive = h .roomLive;
               roomMade = h .roomMade;
@@ -329,6 +353,7 @@ module _ (J : State → Type 0) where
           queueIn = h .queueIn;
           queueFew = h .queueFew;
           edgesIn = h .edgesIn;
+          nonePending = h .nonePending;
           allIn = h .allIn;
           roomLive = omega (arith, h .roomLive);
           roomMade = omega (arith, h .roomMade);
@@ -388,7 +413,7 @@ module _ (J : State → Type 0) where
                 sound = record { some = omega arith; neighboursIn = closed s l h; cornersIn = corners-linked _ (s .tally .faces - 1) 1 first _ _ (omega arith) (corners-linked (s .lists .faceIds) first 2 (s .tally .faces - 1) _ _ (omega arith) (h .cornersIn)); queueIn = h .queueIn; queueFew = h .queueFew };
                 within = record { fewVerts = v .fewVerts; fewLive = v .fewLive; fewMade = v .fewMade; fewEdges = v .fewEdges; fewQueued = v .fewQueued };
                 completed = x .completed;
-                noEdges = refl;
+                clean = (refl, h .nonePending);
                 kept = K .onClear _ (K .onLink _ (s .tally .faces - 1) 1 first (omega arith) (omega arith) (K .onLink s first 2 (s .tally .faces - 1) l (omega arith) (x .kept)));
               },
               omega arith,
@@ -409,6 +434,7 @@ module _ (J : State → Type 0) where
             queueIn = x .queueIn;
             queueFew = x .queueFew;
             edgesIn = h .edgesIn;
+            nonePending = h .nonePending;
             allIn = omega arith;
             roomLive = h .roomLive;
             roomMade = h .roomMade;
@@ -417,11 +443,11 @@ module _ (J : State → Type 0) where
       pub newer : (n first : ℕ) → first ≤ n → (n ≡ first → ⊥) → first < n
       newer n first l e = omega arith
 
-      pub meets-expand : (s : State) → Visited f k (u .point) (u .face) s → Meets (λ _ t. Grown f k t × (s .tally .faces ≤ t .tally .faces)) E (expand w u s)
+      pub meets-expand : (y : Walk) (s : State) → Visited f k (u .point) (u .face) s → Meets (λ _ t. Grown f k t × (s .tally .faces ≤ t .tally .faces)) E (expand y w u s)
       unfolding expand regrow closeRing
-      meets-expand s h =
+      meets-expand y s h =
           meets-then E (λ _ t. Deleted f k (u .point) (u .face) (s .tally .faces) t) _ _ _ s (meets-delete (u .face) s h) λ _ s1 h1.
-          meets-then E (λ _ t. Lined f k (u .point) (s .tally .faces) t) _ _ _ s1 (meets-silhouette (u .face) (s .tally .faces) s1 h1) λ _ s2 h2.
+          meets-then E (λ _ t. Lined f k (u .point) (s .tally .faces) t) _ _ _ s1 (meets-silhouette y (u .face) (s .tally .faces) s1 h1) λ _ s2 h2.
           meets-look E _ _ s2
           (meets-then E (λ _ t. Growing f k (u .point) (s2 .tally .faces) (s2 .tally .edges) (s2 .tally .edges) t) _ _ _ s2
           (meets-stopIf E _ _ _ s2 (λ _. end-stage _ s2 (h2 .stage) tt refl) (λ _. growing (s .tally .faces) s2 h2)) λ _ s3 h3.

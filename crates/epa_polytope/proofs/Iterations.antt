@@ -43,7 +43,7 @@ module _ (J : State → Type 0) (K : Keeps J) (f : ℕ) (w : World) where
           sound = record { some = x .some; neighboursIn = x .neighboursIn; cornersIn = x .cornersIn; queueIn = record { counts = refl; each = rw (g .counts) (g .each) }; queueFew = omega (arith, g .counts, x .queueFew) };
           within = record { fewVerts = v .fewVerts; fewLive = v .fewLive; fewMade = v .fewMade; fewEdges = v .fewEdges; fewQueued = omega (arith, g .counts, v .fewQueued) };
           completed = h .completed;
-          noEdges = h .noEdges;
+          clean = h .clean;
           kept = K .onPop s n e (h .kept);
         },
         g .counts,
@@ -85,7 +85,7 @@ module _ (J : State → Type 0) (K : Keeps J) (f : ℕ) (w : World) where
         faceLive = a .1;
         oldLive = v .fewLive;
         oldMade = v .fewMade;
-        noEdges = h .noEdges;
+        clean = h .clean;
       }
 
   within-suc : (k : ℕ) (s : State) → Within f k s → Within f (suc k) s
@@ -131,7 +131,7 @@ module _ (J : State → Type 0) (K : Keeps J) (f : ℕ) (w : World) where
       meets-then E (λ _ t. Visited J f k (s .tally .vertices) (e .face) t × (t .tally .faces ≡ n)) _ _ _ t1
       (meets-doIf E _ _ _ t1 (λ _. end-answer J K f (w .numbers) k (record { face = e .face; dist = lib.Ieee.nan; point = s .tally .vertices; tol = tol }) _ stuck tt refl _ t1 (u1 .0 .stage)) (λ _. u1)) λ _ t2 u2.
       meets-then E (λ _ t. Grown J f k t × (t2 .tally .faces ≤ t .tally .faces)) _ _ _ t2
-      (meets-expand J K f (w .numbers) k _ t2 (u2 .0)) λ _ t3 u3.
+      (meets-expand J K f (w .numbers) k _ (w .walkBy) t2 (u2 .0)) λ _ t3 u3.
       meets-pure E _ _ t3 (record { grown = u3 .0; bestIn = better-in b (e .face) (t3 .tally .faces) c (omega (arith, hb .bestIn, u2 .1, u3 .1)) (omega (arith, a .0, u2 .1, u3 .1)) }))
 
   -- ---- the loop
@@ -163,7 +163,7 @@ module _ (J : State → Type 0) (K : Keeps J) (f : ℕ) (w : World) where
           sound = record { some = x .some; neighboursIn = x .neighboursIn; cornersIn = x .cornersIn; queueIn = x .queueIn; queueFew = x .queueFew };
           within = record { fewVerts = v .fewVerts; fewLive = v .fewLive; fewMade = v .fewMade; fewEdges = v .fewEdges; fewQueued = v .fewQueued };
           completed = omega (arith, g .completed);
-          noEdges = g .noEdges;
+          clean = g .clean;
           kept = K .onComplete s (g .kept);
         };
         bestIn = h .bestIn;

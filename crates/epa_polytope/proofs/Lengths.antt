@@ -2,7 +2,7 @@
 use mathlib.Core.Path.{_≡_, refl, ap, subst, _∙_}
 use mathlib.Core.Bool.{Bool, true, false, cond}
 use mathlib.Core.List.{List, []}
-use Prim.Native.Nat.{ℕ, zero, suc, _+_, _*_, _/_, _≤_}
+use Prim.Native.Nat.{ℕ, zero, suc, _+_, _*_, _/_, _<_, _≤_}
 use native.Mathlib.Omega.{arith}
 use lib.ListN.{length, length-set, set}
 use lib.Seq.{length-sets}
@@ -11,20 +11,19 @@ use lib.Ieee.{Float}
 use Rattle.shape.specs.declared.vertex.Vertex.{Vertex}
 use Rattle.heap.specs.Heap.{Heap, Entry, heap, entryAt, put as putEntry, swap, less, riseIn, rise, placed, greater, sinkIn, sink, pushed, cleared, settled, popped}
 use Rattle.epa_polytope.proofs.Moves.{Keeps, withLink, withPass, withFace, left}
-use Rattle.epa_polytope.specs.Start.{World, VoronoiSimplex, exchanged}
-use Rattle.epa_polytope.specs.Expansion.{blank, clearEdges, delete, meshOf, beforePass}
+use Rattle.epa_polytope.specs.Start.{Walk, World, VoronoiSimplex, exchanged}
+use Rattle.epa_polytope.specs.Expansion.{blank, clearEdges, delete}
 use Rattle.epa_polytope.specs.Stores.{Lists, putMade, putVertex, vecCells, Made, Store, State, heapOf, vertexAt, roomFor, Three, withVertices, faceCells, withHeap}
 use Rattle.epa_polytope.specs.Run.{complete, run}
 use Rattle.epa_polytope.specs.Steps.{Numbers, End, _>>=_, look, ended, put, noRoom, Out, Over}
-use Rattle.epa_polytope.specs.Bounds.{suffices, Starting, facesAtStart, Ended, Ends}
-use Rattle.epa_polytope.specs.Silhouette.{facing}
+use Rattle.epa_polytope.specs.Bounds.{NeighboursIn, suffices, Starting, facesAtStart, Ended, Ends}
 use Rattle.epa_polytope.proofs.Start.{run-keeps, start-most, demand-3}
-use Rattle.epa_polytope.specs.Stores.{theVertices, theFaces, theEdges, theHeap}
+use Rattle.epa_polytope.specs.Stores.{theVertices, theFaces, theEdges, theHeap, thePending}
 use Rattle.epa_polytope.specs.Bounds.{without, with-all}
-use Rattle.epa_polytope.proofs.Walks.{same-marks-pass, same-room-pass}
+use Rattle.epa_polytope.proofs.EitherWalk.{steady-here}
 use Rattle.epa_polytope.proofs.Sizes.{bound-most}
 
--- seven lists as long as seven others
+-- eight lists as long as eight others
 pub record SameLength (l k : Lists) : Type 0 where
   pub ofVertices : length (k .vertices) ≡ length (l .vertices)
   pub ofFaceIds : length (k .faceIds) ≡ length (l .faceIds)
@@ -33,6 +32,7 @@ pub record SameLength (l k : Lists) : Type 0 where
   pub ofEdges : length (k .edges) ≡ length (l .edges)
   pub ofHeapIds : length (k .heapIds) ≡ length (l .heapIds)
   pub ofHeapKeys : length (k .heapKeys) ≡ length (l .heapKeys)
+  pub ofPending : length (k .pending) ≡ length (l .pending)
 
 -- have the same room
 pub same-rooms : (l k : Lists) → SameLength l k → (y : Store) → roomFor y k ≡ roomFor y l
@@ -40,6 +40,7 @@ same-rooms l k h theVertices = ap (λ (n : ℕ). n / 9) (h .ofVertices)
 same-rooms l k h theFaces = rw (h .ofFaceIds, h .ofFaceFloats, h .ofDeleted)
 same-rooms l k h theEdges = ap (λ (n : ℕ). n / 2) (h .ofEdges)
 same-rooms l k h theHeap = rw (h .ofHeapIds, h .ofHeapKeys)
+same-rooms l k h thePending = ap (λ (n : ℕ). n / 2) (h .ofPending)
 
 -- ---- lists
 
@@ -123,13 +124,13 @@ module _ (l : Lists) where
   Long s = SameLength l (s .lists)
 
   same-vertices : (s : State) (v : List Float) → Long s → length v ≡ length (s .lists .vertices) → SameLength l (withVertices v (s .lists))
-  same-vertices s v h e = record { ofVertices = e ∙ h .ofVertices; ofFaceIds = h .ofFaceIds; ofFaceFloats = h .ofFaceFloats; ofDeleted = h .ofDeleted; ofEdges = h .ofEdges; ofHeapIds = h .ofHeapIds; ofHeapKeys = h .ofHeapKeys }
+  same-vertices s v h e = record { ofVertices = e ∙ h .ofVertices; ofFaceIds = h .ofFaceIds; ofFaceFloats = h .ofFaceFloats; ofDeleted = h .ofDeleted; ofEdges = h .ofEdges; ofHeapIds = h .ofHeapIds; ofHeapKeys = h .ofHeapKeys; ofPending = h .ofPending }
 
   same-queue : (s : State) (q : Heap) → Long s → SameHeap (heapOf s) q → SameLength l (withHeap (q .faces) (q .keys) (s .lists))
-  same-queue s q h e = record { ofVertices = h .ofVertices; ofFaceIds = h .ofFaceIds; ofFaceFloats = h .ofFaceFloats; ofDeleted = h .ofDeleted; ofEdges = h .ofEdges; ofHeapIds = e .ofFaces ∙ h .ofHeapIds; ofHeapKeys = e .ofKeys ∙ h .ofHeapKeys }
+  same-queue s q h e = record { ofVertices = h .ofVertices; ofFaceIds = h .ofFaceIds; ofFaceFloats = h .ofFaceFloats; ofDeleted = h .ofDeleted; ofEdges = h .ofEdges; ofHeapIds = e .ofFaces ∙ h .ofHeapIds; ofHeapKeys = e .ofKeys ∙ h .ofHeapKeys; ofPending = h .ofPending }
 
   same-link : (s : State) (i k j : ℕ) → Long s → Long (withLink s i k j)
-  same-link s i k j h = record { ofVertices = h .ofVertices; ofFaceIds = length-set (s .lists .faceIds) (i * 6 + (3 + k)) j ∙ h .ofFaceIds; ofFaceFloats = h .ofFaceFloats; ofDeleted = h .ofDeleted; ofEdges = h .ofEdges; ofHeapIds = h .ofHeapIds; ofHeapKeys = h .ofHeapKeys }
+  same-link s i k j h = record { ofVertices = h .ofVertices; ofFaceIds = length-set (s .lists .faceIds) (i * 6 + (3 + k)) j ∙ h .ofFaceIds; ofFaceFloats = h .ofFaceFloats; ofDeleted = h .ofDeleted; ofEdges = h .ofEdges; ofHeapIds = h .ofHeapIds; ofHeapKeys = h .ofHeapKeys; ofPending = h .ofPending }
 
   same-face : (s : State) (corners neighbours : Three) (m : Made) → Long s → Long (withFace s corners neighbours m)
   same-face s corners neighbours m h =
@@ -142,21 +143,21 @@ module _ (l : Lists) where
         ofEdges = h .ofEdges;
         ofHeapIds = h .ofHeapIds;
         ofHeapKeys = h .ofHeapKeys;
+        ofPending = h .ofPending;
       }
 
-  pub same-walked : (w : Numbers) (s : State) (p i : ℕ) → Long s → Long (withPass w s p i)
-  same-walked w s p i h =
-      let k = s .lists in
-      let m = meshOf w k p in
-      let w0 = beforePass s i in
+  pub same-walked : (y : Walk) (w : Numbers) (s : State) (p i : ℕ) → NeighboursIn (s .tally .faces) (s .tally .faces) (s .lists .faceIds) → i < s .tally .faces → Long s → Long (withPass y w s p i)
+  same-walked y w s p i a b h =
+      let st = steady-here y w s p i a b in
       record {
         ofVertices = h .ofVertices;
         ofFaceIds = h .ofFaceIds;
         ofFaceFloats = h .ofFaceFloats;
-        ofDeleted = same-marks-pass m w0 (facing (k .faceIds) i 0) (facing (k .faceIds) i 1) (facing (k .faceIds) i 2) ∙ h .ofDeleted;
-        ofEdges = same-room-pass m w0 (facing (k .faceIds) i 0) (facing (k .faceIds) i 1) (facing (k .faceIds) i 2) ∙ h .ofEdges;
+        ofDeleted = st .marks ∙ h .ofDeleted;
+        ofEdges = st .reached .sameRoom ∙ h .ofEdges;
         ofHeapIds = h .ofHeapIds;
         ofHeapKeys = h .ofHeapKeys;
+        ofPending = st .places ∙ h .ofPending;
       }
 
   same-exchanged : (v : List Float) → length (exchanged v) ≡ length v
@@ -165,7 +166,7 @@ module _ (l : Lists) where
 
   same-delete : (s : State) (i : ℕ) → Long s → Long (left (delete i s))
   unfolding delete _>>=_ look put
-  same-delete s i h = record { ofVertices = h .ofVertices; ofFaceIds = h .ofFaceIds; ofFaceFloats = h .ofFaceFloats; ofDeleted = length-set (s .lists .deleted) i 1 ∙ h .ofDeleted; ofEdges = h .ofEdges; ofHeapIds = h .ofHeapIds; ofHeapKeys = h .ofHeapKeys }
+  same-delete s i h = record { ofVertices = h .ofVertices; ofFaceIds = h .ofFaceIds; ofFaceFloats = h .ofFaceFloats; ofDeleted = length-set (s .lists .deleted) i 1 ∙ h .ofDeleted; ofEdges = h .ofEdges; ofHeapIds = h .ofHeapIds; ofHeapKeys = h .ofHeapKeys; ofPending = h .ofPending }
 
   same-complete : (s : State) → Long s → Long (left (complete s))
   unfolding complete _>>=_ look put
@@ -173,7 +174,7 @@ module _ (l : Lists) where
 
   same-clear : (s : State) → Long s → Long (left (clearEdges s))
   unfolding clearEdges _>>=_ look put
-  same-clear s h = record { ofVertices = h .ofVertices; ofFaceIds = h .ofFaceIds; ofFaceFloats = h .ofFaceFloats; ofDeleted = h .ofDeleted; ofEdges = length-blank _ (s .lists .edges) ∙ h .ofEdges; ofHeapIds = h .ofHeapIds; ofHeapKeys = h .ofHeapKeys }
+  same-clear s h = record { ofVertices = h .ofVertices; ofFaceIds = h .ofFaceIds; ofFaceFloats = h .ofFaceFloats; ofDeleted = h .ofDeleted; ofEdges = length-blank _ (s .lists .edges) ∙ h .ofEdges; ofHeapIds = h .ofHeapIds; ofHeapKeys = h .ofHeapKeys; ofPending = h .ofPending }
 
   pub same-moves : Keeps Long
   same-moves = record {
@@ -183,14 +184,14 @@ module _ (l : Lists) where
     onQueue = λ s e _ _ h. same-queue s _ h (same-pushed (heapOf s) e);
     onPop = λ s n _ h. same-queue s _ h (same-popped (heapOf s) n);
     onDelete = λ s i _ h. same-delete s i h;
-    onPass = λ w s p i _ _ _ h. same-walked w s p i h;
+    onPass = λ y w s p i a b _ h. same-walked y w s p i a b h;
     onLink = λ s i k j _ _ h. same-link s i k j h;
     onClear = λ s h. same-clear s h;
     onComplete = λ s h. same-complete s h;
   }
 
 pub long-itself : (l : Lists) → SameLength l l
-long-itself l = record { ofVertices = refl; ofFaceIds = refl; ofFaceFloats = refl; ofDeleted = refl; ofEdges = refl; ofHeapIds = refl; ofHeapKeys = refl }
+long-itself l = record { ofVertices = refl; ofFaceIds = refl; ofFaceFloats = refl; ofDeleted = refl; ofEdges = refl; ofHeapIds = refl; ofHeapKeys = refl; ofPending = refl }
 
 -- EACH LIST KEEPS ITS LENGTH, however a run ends
 pub keeps-lengths : (w : World) (x : VoronoiSimplex) (l : Lists) (e : End) (t : State) → run w x l ≡ ended e t → SameLength l (t .lists)
@@ -198,7 +199,7 @@ keeps-lengths w x l e t q = run-keeps (λ s. SameLength l (s .lists)) w x l (sam
 
 -- ---- the room that suffices
 
--- A STORE of 105 vertices, of 10,710 faces, of 206 edges or of 10,710 heap entries is never refused, whatever the others hold
+-- A STORE of 105 vertices, of 10,710 faces, of 206 edges, of 10,710 heap entries or of 206 pending questions is never refused, whatever the others hold
 pub always-suffices : (w : World) (x : VoronoiSimplex) (l : Lists) (y : Store) → suffices y ≤ roomFor y l → (t : State) → run w x l ≡ ended (noRoom y) t → ⊥
 always-suffices w x l y enough t e =
     tight y (rw (same-rooms l (t .lists) (keeps-lengths w x l (noRoom y) t e) y) enough) (subst (λ (o : Out Over). Ends (facesAtStart x) o) e (demand-3 w x l))
@@ -211,4 +212,5 @@ always-suffices w x l y enough t e =
     tight theVertices a h = omega (arith, h .tight, h .atMost, a)
     tight theFaces a h = omega (arith, h .tight, h .atMost, a, bound-most (h .from) (h .expansions) (few (h .starting)) (h .atMost))
     tight theEdges a h = omega (arith, h .tight, h .atMost, a, few (h .starting))
+    tight thePending a h = omega (arith, h .tight, h .atMost, a, few (h .starting))
     tight theHeap a h = omega (arith, h .tight, h .atMost, a, bound-most (h .from) (h .expansions) (few (h .starting)) (h .atMost))

@@ -18,6 +18,7 @@ pub mod Rule
 pub mod Passes
 pub mod PlainWalks
 pub mod PlainPasses
+pub mod EitherWalk
 pub mod Missed
 pub mod Counted
 pub mod Panics
@@ -26,6 +27,7 @@ pub mod Demand3
 pub mod Alike
 pub mod Along
 pub mod PlainAlong
+pub mod EitherAlong
 pub mod Twins
 pub mod TwinIterations
 pub mod TwinRuns
@@ -38,14 +40,15 @@ pub mod Pairing
 pub mod StartingFour
 pub mod StartingTwo
 pub mod Beginning
+pub mod AnyWalk
 pub mod Searching
 pub mod Starting
 pub mod Expanding
 pub mod Visiting
 pub mod Popping
 pub mod Looping
-pub mod PlainLoop
 pub mod DistancesWalks
 pub mod DistancesPops
 pub mod DistancesRuns
 pub mod Distances
+pub mod PlainLoop

@@ -191,7 +191,7 @@ few-more B w f k l g s r h =
     rw (expansion-by-pass w g s)
     (meets-bind (E (B + 3)) (λ p t. Few B t × Passable f k p t) _ _ _ s
     (meets-both (meets-ends (λ _ _ b. omega (arith, b)) (few-upToPass B w g s h)) (meets-upToPass f w k l g s r)) λ p t y.
-    meets-then (E (B + 3)) (λ _ v. Few (B + 3) v) _ _ _ t (few-pass B t _ (pass-law (w .numbers) _ _ t (y .1 .sound .neighboursIn) (y .1 .faceIn)) (y .0)) λ _ v z.
+    meets-then (E (B + 3)) (λ _ v. Few (B + 3) v) _ _ _ t (few-pass B t _ (pass-law (w .walkBy) (w .numbers) _ _ t (y .1 .sound .neighboursIn) (y .1 .faceIn)) (y .0)) λ _ v z.
     few-after (B + 3) w g p v z)
 
 -- ---- the run

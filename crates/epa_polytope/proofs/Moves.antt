@@ -5,15 +5,15 @@ use Prim.Native.Nat.{ℕ, suc, _+_, _<_, _≤_}
 use lib.ListN.{set}
 use Rattle.shape.specs.declared.vertex.Vertex.{Vertex}
 use Rattle.heap.specs.Heap.{Entry, pushed, popped}
-use Rattle.epa_polytope.specs.Stores.{Made, Three, State, stateOf, withVertices, withFaceIds, withFaceFloats, withDeleted, withHeap, vertexCount, faceCount, heapCount, roomFor, theVertices, theFaces, theHeap}
+use Rattle.epa_polytope.specs.Stores.{Made, Three, State, stateOf, withVertices, withFaceIds, withFaceFloats, withDeleted, withHeap, vertexCount, faceCount, heapCount, roomFor, theVertices, theFaces, theEdges, theHeap}
 use Rattle.epa_polytope.specs.Stores.{putVertex, putFace, putMade, linkedIn, heapOf}
-use Rattle.epa_polytope.specs.Silhouette.{Walked, facing, pass}
+use Rattle.epa_polytope.specs.Silhouette.{facing, recordedOf}
+use Rattle.epa_polytope.specs.PlainWalk.{Walking}
 use Rattle.epa_polytope.specs.Steps.{Numbers, Out, onward, ended}
-use Rattle.epa_polytope.specs.Start.{exchanged}
-use Rattle.epa_polytope.specs.Expansion.{delete, meshOf, beforePass, afterPass, clearEdges}
+use Rattle.epa_polytope.specs.Start.{Walk, exchanged}
+use Rattle.epa_polytope.specs.Expansion.{delete, meshOf, beforePass, passBy, afterPass, clearEdges}
 use Rattle.epa_polytope.specs.Run.{complete}
 use Rattle.epa_polytope.specs.Bounds.{NeighboursIn}
-use Rattle.epa_polytope.proofs.Walks.{recordedOf, edgeRoom}
 
 -- the state that a step leaves
 abbrev pub left : {A : Type 0} → Out A → State
@@ -46,15 +46,15 @@ withPop s n = let h = popped (heapOf s) n in stateOf (withHeap (h .faces) (h .ke
 abbrev pub withLink : State → ℕ → ℕ → ℕ → State
 withLink s i k j = stateOf (withFaceIds (linkedIn (s .lists .faceIds) i k j) (s .lists)) (s .tally)
 
--- a pass from the vertex p, over the neighbours of the face i
-abbrev pub passFrom : Numbers → State → ℕ → ℕ → Walked
-passFrom w s p i =
+-- a pass by either walk from the vertex p, over the neighbours of the face i
+abbrev pub passFrom : Walk → Numbers → State → ℕ → ℕ → Walking
+passFrom y w s p i =
     let l = s .lists in
     let ids = l .faceIds in
-    pass (meshOf w l p) (beforePass s i) (facing ids i 0) (facing ids i 1) (facing ids i 2)
+    passBy y (meshOf w l p) (beforePass s i) (facing ids i 0) (facing ids i 1) (facing ids i 2)
 
-abbrev pub withPass : Numbers → State → ℕ → ℕ → State
-withPass w s p i = let t = passFrom w s p i in afterPass s t (recordedOf (edgeRoom (beforePass s i)) (t .answer))
+abbrev pub withPass : Walk → Numbers → State → ℕ → ℕ → State
+withPass y w s p i = let t = passFrom y w s p i in afterPass s t (recordedOf (roomFor theEdges (s .lists)) (t .walk .answer))
 
 -- J is kept at every move of a run: a push, where there is room; the exchange, where there are vertices to exchange; a pop, of n + 1 entries; a
 -- deletion, a link and a pass, of faces that were made; the clearing of the edges; and the end of an expansion
@@ -65,8 +65,8 @@ pub record Keeps (J : State → Type 0) : Type 0 where
   pub onQueue : (s : State) (e : Entry) → s .tally .heap < roomFor theHeap (s .lists) → s .tally .heap < s .tally .faces → J s → J (withEntry s e)
   pub onPop : (s : State) (n : ℕ) → s .tally .heap ≡ suc n → J s → J (withPop s n)
   pub onDelete : (s : State) (i : ℕ) → i < s .tally .faces → J s → J (left (delete i s))
-  pub onPass : (w : Numbers) (s : State) (p i : ℕ) → NeighboursIn (s .tally .faces) (s .tally .faces) (s .lists .faceIds) → i < s .tally .faces → s .tally .edges ≡ 0 → J s
-      → J (withPass w s p i)
+  pub onPass : (y : Walk) (w : Numbers) (s : State) (p i : ℕ) → NeighboursIn (s .tally .faces) (s .tally .faces) (s .lists .faceIds) → i < s .tally .faces
+      → (s .tally .edges ≡ 0) × (s .tally .pending ≡ 0) → J s → J (withPass y w s p i)
   pub onLink : (s : State) (i k j : ℕ) → i < s .tally .faces → k < 3 → J s → J (withLink s i k j)
   pub onClear : (s : State) → J s → J (left (clearEdges s))
   pub onComplete : (s : State) → J s → J (left (complete s))

@@ -1,17 +1,21 @@
 -- A silhouette pass of a run: what the stores are before it, and what it leaves. Assumes nothing.
 use mathlib.Core.Path.{_≡_, refl, subst}
+use mathlib.Core.Bool.{Bool, true, false}
 use mathlib.Core.Option.{Option, none, some}
 use Prim.Native.Nat.{ℕ, suc, _+_, _-_, _*_, _%_, _<_, _≤_, max}
 use native.Mathlib.Omega.{arith}
 use Rattle.heap.specs.Heap.{Entry}
-use Rattle.epa_polytope.specs.Silhouette.{Walked, facing, withMissed, pass, WalkAnswer}
-use Rattle.epa_polytope.specs.Start.{World}
+use Rattle.epa_polytope.specs.Silhouette.{withMissed, WalkAnswer, recordedOf}
+use Rattle.epa_polytope.specs.PlainWalk.{Walking}
+use Rattle.epa_polytope.specs.Start.{Walk, World}
 use Rattle.epa_polytope.specs.Stores.{State, liveTo, live, cornerAt, roomFor}
 use Rattle.epa_polytope.specs.Steps.{End, _>>_, pure, Found, converged, stuck, heapEmpty, answer, madeOf, three, pushFace, Numbers}
-use Rattle.epa_polytope.specs.Expansion.{Expansion, meshOf, beforePass, passed, silhouette}
+use Rattle.epa_polytope.specs.Expansion.{Expansion, afterPass, passedIf, silhouette}
 use Rattle.epa_polytope.specs.Bounds.{NeighboursIn}
 use Rattle.epa_polytope.specs.Demand3.{Carried, Passing, upToPassOf, upToPass, storesLeft, Joined, joinedAt, upToQueue}
-use Rattle.epa_polytope.proofs.Walks.{asked-facing, askedOf, spent-pass, fewer-pass, one-more, misses-pass}
+use Rattle.epa_polytope.proofs.Walks.{askedOf, one-more}
+use Rattle.epa_polytope.proofs.EitherWalk.{steady-here}
+use Rattle.epa_polytope.proofs.Moves.{passFrom}
 use Rattle.epa_polytope.proofs.Steps.{Meets, meets-ends, meets-bind, meets-then, meets-look, meets-pure, meets-stop, meets-doIf, meets-branch, meets-link, meets-face, meets-vertex}
 use Rattle.epa_polytope.proofs.Growth.{Ready, Visited, Deleted, Growing, linked, grown, one-fewer, meets-delete}
 use Rattle.epa_polytope.proofs.Iterations.{IsLive, meets-popLive, visited}
@@ -36,27 +40,30 @@ pub record Passed (s t : State) : Type 0 where
   pub fewMissed : t .tally .missed + 2 * live t ≤ s .tally .missed + 3 + 2 * live s
 
 -- of faces whose neighbours are faces
-pub pass-law : (w : Numbers) (p i : ℕ) (s : State) → NeighboursIn (s .tally .faces) (s .tally .faces) (s .lists .faceIds) → i < s .tally .faces
-    → Passed s (storesLeft (silhouette w p i s))
+pub pass-law : (y : Walk) (w : Numbers) (p i : ℕ) (s : State) → NeighboursIn (s .tally .faces) (s .tally .faces) (s .lists .faceIds) → i < s .tally .faces
+    → Passed s (storesLeft (silhouette y w p i s))
 unfolding silhouette
-pass-law w p i s a l =
-    let N = s .tally .faces in
+pass-law y w p i s a l =
     let n0 = s .tally .missed in
     let ids = s .lists .faceIds in
-    let m = meshOf w (s .lists) p in
-    let s0 = beforePass s i in
-    let y0 = asked-facing ids N a i 0 l (omega arith) in
-    let y1 = asked-facing ids N a i 1 l (omega arith) in
-    let y2 = asked-facing ids N a i 2 l (omega arith) in
-    let t = pass m s0 (facing ids i 0) (facing ids i 1) (facing ids i 2) in
-    by t (t .answer)
-    (omega (arith, misses-pass m N a s0 (facing ids i 0) (facing ids i 1) (facing ids i 2) y0 y1 y2, one-more ids i 0 n0, one-more ids i 1 (withMissed ids i 0 n0), one-more ids i 2 (withMissed ids i 1 (withMissed ids i 0 n0))))
-    (fewer-pass m N a s0 _ _ _ y0 y1 y2) (omega (arith, spent-pass m N a s0 (facing ids i 0) (facing ids i 1) (facing ids i 2) y0 y1 y2 (roomFor theEdges (s .lists)) refl))
+    let st = steady-here y w s p i a l in
+    let few : passFrom y w s p i .walk .missed + 2 * liveTo (s .tally .faces) (passFrom y w s p i .walk .deleted) ≤ s .tally .missed + 3 + 2 * live s =
+    omega (arith, st .missed, one-more ids i 0 n0, one-more ids i 1 (withMissed ids i 0 n0), one-more ids i 2 (withMissed ids i 1 (withMissed ids i 0 n0))) in
+    left (passFrom y w s p i .short) (passFrom y w s p i) (passFrom y w s p i .walk .answer) few (st .fewer) (omega (arith, st .few))
   where
-    by : (t : Walked) (a : WalkAnswer) → t .missed + 2 * liveTo (s .tally .faces) (t .deleted) ≤ s .tally .missed + 3 + 2 * live s → liveTo (s .tally .faces) (t .deleted) ≤ live s → askedOf (roomFor theEdges (s .lists)) a + liveTo (s .tally .faces) (t .deleted) ≤ live s + 3
-        → Passed s (storesLeft (passed s t a))
-    by t (Done n) x f e = record { noneLive = f; threeMore = e; sameVerts = refl; sameMade = refl; sameQueued = refl; mostEdges = refl; fewMissed = x }
-    by t NoRoom x f e = record { noneLive = f; threeMore = omega arith; sameVerts = refl; sameMade = refl; sameQueued = refl; mostEdges = refl; fewMissed = x }
+    R : ℕ
+    R = roomFor theEdges (s .lists)
+
+    by : (t : Walking) (n : ℕ) → t .walk .missed + 2 * liveTo (s .tally .faces) (t .walk .deleted) ≤ s .tally .missed + 3 + 2 * live s → liveTo (s .tally .faces) (t .walk .deleted) ≤ live s
+        → n + liveTo (s .tally .faces) (t .walk .deleted) ≤ live s + 3 → Passed s (afterPass s t n)
+    by t n x f e = record { noneLive = f; threeMore = e; sameVerts = refl; sameMade = refl; sameQueued = refl; mostEdges = refl; fewMissed = x }
+
+    left : (b : Bool) (t : Walking) (a : WalkAnswer) → t .walk .missed + 2 * liveTo (s .tally .faces) (t .walk .deleted) ≤ s .tally .missed + 3 + 2 * live s
+        → liveTo (s .tally .faces) (t .walk .deleted) ≤ live s → askedOf R a + liveTo (s .tally .faces) (t .walk .deleted) ≤ live s + 3 → Passed s (storesLeft (passedIf b a (afterPass s t (recordedOf R a))))
+    left true t (Done n) x f e = by t n x f e
+    left true t NoRoom x f e = by t R x f (omega (arith, e))
+    left false t (Done n) x f e = by t n x f e
+    left false t NoRoom x f e = by t R x f (omega (arith, e))
 
 -- whatever ends the run
 abbrev Ever : End → State → Type 0
@@ -81,7 +88,7 @@ module _ (f : ℕ) (w : World) (k : ℕ) (l : k ≤ 100) where
       meets-then Ever (λ _ u. T u) _ _ _ t2 (meets-doIf Ever _ _ _ t2 (λ _. answers-ever _ stuck _ t2) (λ _. u2)) λ _ t3 u3.
       meets-then Ever (λ _ u. Deleted J f k (t .tally .vertices) (e .face) (t3 .tally .faces) u) _ _ _ t3
       (meets-ends (λ _ _ _. tt) (meets-delete J nothing-kept f (w .numbers) k (record { face = e .face; dist = lib.Ieee.nan; point = t .tally .vertices; tol = g .tol }) (e .face) t3 u3)) λ _ t4 u4.
-      meets-pure Ever _ _ t4 (record { stage = u4 .stage; same = refl; sound = u4 .sound; faceIn = u4 .faceIn; lessLive = u4 .lessLive; oldMade = u4 .oldMade; noEdges = u4 .noEdges }))
+      meets-pure Ever _ _ t4 (record { stage = u4 .stage; same = refl; sound = u4 .sound; faceIn = u4 .faceIn; lessLive = u4 .lessLive; oldMade = u4 .oldMade; clean = u4 .clean }))
 
   pub meets-upToPass : (g : Carried) (s : State) → Ready J f k s → Meets (λ p u. Passable f k p u) Ever (upToPass w g s)
   unfolding upToPass

@@ -37,6 +37,10 @@ module _ {A : Type 0} where
 
   -- ---- used, and given back
 
+  -- where nothing was used yet
+  pub none-used : (z : A) (l : List A) → Returned z 0 0 l l
+  none-used z l = record { back = record { zeros = λ i a b. let e : ⊥ = omega arith in absurd e }; never = stays 0 l }
+
   module _ {z : A} {n m : ℕ} {l l0 : List A} (h : Returned z n m l l0) where
     -- more entries, and no place is written above them
     pub used : (k : List A) (n' : ℕ) → n ≤ n' → Untouched n' k l → Returned z n' (max m n') k l0

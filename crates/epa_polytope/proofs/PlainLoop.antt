@@ -8,7 +8,9 @@ use lib.ListN.{length, getD, set}
 use lib.Dec.{eqb, ltb}
 use borrow.Author.Tests.{eqb-true, eqb-false, eq-eqb, ne-eqb, lt-ltb, le-ltb}
 use Rattle.epa_polytope.specs.Stores.{Lists}
-use Rattle.epa_polytope.specs.Silhouette.{Question, WalkAnswer, Done, NoRoom, Mesh, Walked, walked, Facing, facing, withMissed, facingFrom, edgePut, notedIf, noted}
+use Rattle.epa_polytope.specs.Silhouette.{Question, WalkAnswer, Done, NoRoom, Mesh, Walked, walked, Facing, facing, withMissed, facingFrom, edgePut, notedIf, noted, pass}
+use Rattle.epa_polytope.specs.Start.{Walk, recursive, plain}
+use Rattle.epa_polytope.specs.Expansion.{passBy}
 use Rattle.epa_polytope.specs.PlainWalk.{Walking, walking, walkingBy, PlainSoFar, putIf, putIn, questionAt, without, answerIf, answerQuestion, turn, plainWalk, plainPass}
 use Rattle.epa_polytope.specs.Code.{restsBy, restsOf}
 use Rattle.epa_polytope.proofs.Lists.{next-two}
@@ -166,3 +168,13 @@ module _ {mesh : Lists → Mesh} {d0 e0 p0 : List ℕ} {r0 : PlainSoFar} {d e p 
 pub pass-made : (m : Mesh) (s : Walking) (a b c : Question) {s1 s2 s3 t : Walking} → s1 ≡ putIn s c → s2 ≡ putIn s1 b → s3 ≡ putIn s2 a → t ≡ plainWalk m s3 → t ≡ plainPass m s a b c
 unfolding plainPass
 pass-made m s a b c h1 h2 h3 h = h ∙ ap (plainWalk m) (h3 ∙ ap (λ (x : Walking). putIn x a) (h2 ∙ ap (λ (x : Walking). putIn x b) h1))
+
+-- by either walk
+module _ (m : Mesh) (s : Walking) (a b c : Question) {y : Walk} where
+  pub recursively : {w : Walked} → y ≡ recursive → w ≡ pass m (s .walk) a b c → walking w (s .pending) (s .held) (s .short) ≡ passBy y m s a b c
+  unfolding passBy
+  recursively e h = rw e (ap (λ (w : Walked). walking w (s .pending) (s .held) (s .short)) h)
+
+  pub plainly : {t : Walking} → y ≡ plain → t ≡ plainPass m s a b c → t ≡ passBy y m s a b c
+  unfolding passBy
+  plainly e h = rw e h

@@ -12,13 +12,13 @@ use lib.Seq.{getD-set-same, getD-set-other}
 use lib.Dec.{eqb, ltb}
 use borrow.Author.Tests.{eqb-true, ltb-true, ltb-false}
 use Rattle.epa_polytope.specs.Stores.{liveTo}
-use Rattle.epa_polytope.specs.Silhouette.{Question, WalkAnswer, Done, NoRoom, Mesh, Walked, zeros, facing, withMissed, edgePut, noted, entered}
+use Rattle.epa_polytope.specs.Silhouette.{Question, WalkAnswer, Done, NoRoom, Mesh, Walked, zeros, facing, withMissed, edgePut, noted, entered, recordedOf}
 use Rattle.epa_polytope.specs.PlainWalk.{Walking, walking, putIf, putIn, questionAt, without, answerIf, answerQuestion, turn, turns, plainWalk, plainPass}
 use Rattle.epa_polytope.specs.Bounds.{NeighboursIn}
 use Rattle.epa_polytope.specs.Rule.{Zeroed, Returned}
 use Rattle.epa_polytope.proofs.Basics.{no-edges, live-delete}
 use Rattle.epa_polytope.proofs.Places.{stays, after, one-set, reads-set, used, given-back}
-use Rattle.epa_polytope.proofs.Walks.{Asked, asked-facing, askedOf, recordedOf, edgeRoom, Recorded, Reached, reached-after, reached-noted, noted-deletes-none, asked-noted, edges-noted, misses-noted, one-more}
+use Rattle.epa_polytope.proofs.Walks.{Asked, asked-facing, askedOf, edgeRoom, Recorded, Reached, reached-after, reached-noted, noted-deletes-none, asked-noted, edges-noted, misses-noted, one-more}
 use Rattle.epa_polytope.proofs.PlainWalks.{turn-short, turn-full, turn-none, turn-takes}
 
 -- ---- the places of a question

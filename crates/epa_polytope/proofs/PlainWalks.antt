@@ -137,6 +137,27 @@ pub walk-rests : (m : Mesh) (s : Walking) → turn m s ≡ s → plainWalk m s �
 unfolding plainWalk
 walk-rests m s e = rest-stays (potential s) m s e
 
+-- ---- and where it ends it holds no question, unless it has found no room
+
+turns-turn : (n : ℕ) (m : Mesh) (s : Walking) → turn m (turns n m s) ≡ turns (suc n) m s
+unfolding turns
+turns-turn zero m s = refl
+turns-turn (suc n) m s = turns-turn n m (turn m s)
+
+pub plain-rests : (m : Mesh) (s : Walking) → turn m (plainWalk m s) ≡ plainWalk m s
+unfolding plainWalk
+plain-rests m s = turns-turn (potential s) m s ∙ enough-turns (suc (potential s)) (potential s) m s (omega arith) (omega arith)
+
+pub rests-empty : (m : Mesh) (s : Walking) {n : ℕ} → turn m s ≡ s → s .short ≡ false → s .walk .answer ≡ Done n → s .held ≡ 0
+rests-empty m s {n} e eb ea = by (s .held) refl
+  where
+    by : (h : ℕ) → s .held ≡ h → h ≡ 0
+    by zero eh = refl
+    by (suc h) eh =
+        let less = answer-less m (walking (s .walk) (without (s .pending) h) h false) n (questionAt (s .pending) h) in
+        let z : ⊥ = omega (arith, less, ap potential (turn-takes m s eb ea eh), ap potential e, eh) in
+        absurd z
+
 -- ---- a turn as the code makes it: the three answers, by what the code tests
 
 module _ (m : Mesh) (s : Walking) {n h : ℕ} (eb : s .short ≡ false) (ea : s .walk .answer ≡ Done n) (eh : s .held ≡ suc h) where

@@ -10,19 +10,21 @@ use lib.Dec.{ltb}
 use lib.Ieee.{Float}
 use Rattle.shape.specs.declared.vertex.Vertex.{Vertex}
 use Rattle.heap.specs.Heap.{Heap, Entry, noEntry, pushed, popped}
-use Rattle.epa_polytope.specs.Stores.{theVertices, theFaces, theEdges, theHeap, Three, putMade, Lists, putVertex, stateOf, Tally, vecCells, State, vertexAt, Made, putFace, noneYet, roomFor, faceCells, Store, faceCount, withHeap, vertexCount, heapCount, withVertices, heapOf, doneCount, edgeCount, mostCount, missedCount}
-use Rattle.epa_polytope.proofs.Places.{stays, after, one-set, some-sets, if-so, reads-set, used, given-back, blanked}
+use Rattle.epa_polytope.specs.Stores.{theVertices, theFaces, theEdges, theHeap, thePending, Three, putMade, Lists, putVertex, stateOf, Tally, vecCells, State, vertexAt, Made, putFace, noneYet, roomFor, faceCells, Store, faceCount, withHeap, vertexCount, heapCount, withVertices, heapOf, doneCount, edgeCount, pendingCount, mostCount, missedCount}
+use Rattle.epa_polytope.proofs.Places.{stays, after, one-set, some-sets, if-so, reads-set, none-used, used, given-back, blanked}
 use Rattle.epa_polytope.proofs.Heaps.{inside-pushed, inside-popped}
-use Rattle.epa_polytope.specs.Start.{World, exchanged, VoronoiSimplex}
+use Rattle.epa_polytope.specs.Start.{Walk, World, exchanged, VoronoiSimplex}
 use Rattle.epa_polytope.specs.Rule.{Untouched, Returned, Ruled, InRoom, countFor}
 use Rattle.epa_polytope.specs.Steps.{Numbers, End, _>>=_, look, put, ended, onward}
 use Rattle.epa_polytope.proofs.Moves.{Keeps, withLink, withPass, withFace, left, passFrom}
 use Rattle.epa_polytope.specs.Run.{complete, run}
-use Rattle.epa_polytope.specs.Expansion.{delete, clearEdges, meshOf, beforePass}
+use Rattle.epa_polytope.specs.Expansion.{delete, clearEdges}
+use Rattle.epa_polytope.specs.Silhouette.{recordedOf}
 use Rattle.epa_polytope.specs.Bounds.{NeighboursIn, Sound}
 use Rattle.epa_polytope.proofs.Lengths.{same-moves, SameLength, same-rooms, long-itself}
 use Rattle.epa_polytope.specs.Demand3.{Carried, runTo}
-use Rattle.epa_polytope.proofs.Walks.{Reached, edgeRoom, reached-pass, recordedOf, asked-facing}
+use Rattle.epa_polytope.proofs.Walks.{edgeRoom}
+use Rattle.epa_polytope.proofs.EitherWalk.{steady-from, steady-here}
 use Rattle.epa_polytope.proofs.Start.{run-keeps, meets-runTo, empty-lent}
 
 -- ---- what a record of nine or six numbers is written over
@@ -74,19 +76,6 @@ module _ (m : ℕ) (ids0 : List ℕ) (keys0 : List Float) (h : Heap) where
       let ks = last-back (noEntry .key) n (r .top) (popped h n .keys) (h .keys) keys0 g (p .ofKeys) (rw e at (r .keys)) in
       record { top = r .top; counted = omega (arith, p .counts); few = r .few; faces = rw (p .counts) fs; keys = rw (p .counts) ks }
 
--- ---- a pass
-
-pass-reached : (w : Numbers) (s : State) (p i : ℕ) → NeighboursIn (s .tally .faces) (s .tally .faces) (s .lists .faceIds) → i < s .tally .faces
-    → Reached (s .tally .faces) (beforePass s i) (passFrom w s p i)
-pass-reached w s p i a h =
-    let n = s .tally .faces in
-    let ids = s .lists .faceIds in
-    reached-pass (meshOf w (s .lists) p) n a _ _ _ _
-    (asked-facing ids n a i 0 h (omega arith))
-    (asked-facing ids n a i 1 h (omega arith))
-    (asked-facing ids n a i 2 h (omega arith))
-    (omega arith)
-
 -- ---- every move keeps the rule
 
 module _ (l : Lists) where
@@ -107,6 +96,10 @@ module _ (l : Lists) where
     heapFew = r .few;
     heapIds = r .faces;
     heapKeys = r .keys;
+    mostHeld = h .mostHeld;
+    pendingCounted = h .pendingCounted;
+    pendingFew = h .pendingFew;
+    pending = h .pending;
   }
 
   rule-vertices : (s : State) (v : List Float) (n : ℕ) → s .tally .vertices ≤ n → Untouched (n * 9) v (s .lists .vertices) → Ruled l s → Ruled l (stateOf (withVertices v (s .lists)) (vertexCount n (s .tally)))
@@ -122,6 +115,10 @@ module _ (l : Lists) where
     heapFew = h .heapFew;
     heapIds = h .heapIds;
     heapKeys = h .heapKeys;
+    mostHeld = h .mostHeld;
+    pendingCounted = h .pendingCounted;
+    pendingFew = h .pendingFew;
+    pending = h .pending;
   }
 
   rule-face : (s : State) (corners neighbours : Three) (m : Made) → Ruled l s → Ruled l (withFace s corners neighbours m)
@@ -139,25 +136,38 @@ module _ (l : Lists) where
         heapFew = omega (arith, h .heapFew);
         heapIds = h .heapIds;
         heapKeys = h .heapKeys;
+        mostHeld = h .mostHeld;
+        pendingCounted = h .pendingCounted;
+        pendingFew = h .pendingFew;
+        pending = h .pending;
       }
 
-  rule-pass : (w : Numbers) (s : State) (p i : ℕ) → NeighboursIn (s .tally .faces) (s .tally .faces) (s .lists .faceIds) → i < s .tally .faces → s .tally .edges ≡ 0 → Ruled l s → Ruled l (withPass w s p i)
-  rule-pass w s p i a b z h =
-      let t = pass-reached w s p i a b in
-      let room : edgeRoom (passFrom w s p i) ≡ edgeRoom (beforePass s i) = ap (λ (n : ℕ). n / 2) (t .sameRoom) in
+  -- with lists as long as those lent
+  rule-pass : (y : Walk) (w : Numbers) (s : State) (p i : ℕ) → NeighboursIn (s .tally .faces) (s .tally .faces) (s .lists .faceIds) → i < s .tally .faces
+      → (s .tally .edges ≡ 0) × (s .tally .pending ≡ 0) → SameLength l (s .lists) → Ruled l s → Ruled l (withPass y w s p i)
+  rule-pass y w s p i a b z long h =
+      let none = subst (λ (n : ℕ). Returned 0 (n * 2) (h .mostHeld * 2) (s .lists .pending) (l .pending)) (z .1) (h .pending) in
+      let st = steady-from y w s p i a b (l .pending) (h .mostHeld) (long .ofPending) (h .pendingFew) none in
+      let t = passFrom y w s p i .walk in
+      let r = st .reached in
+      let room : edgeRoom t ≡ roomFor theEdges (s .lists) = ap (λ (n : ℕ). n / 2) (r .sameRoom) in
       record {
         vertices = h .vertices;
         faceIds = h .faceIds;
         faceFloats = h .faceFloats;
-        deleted = after (omega arith) (t .ofDeleted) (h .deleted);
+        deleted = after (omega arith) (r .ofDeleted) (h .deleted);
         edgesCounted = omega arith;
-        edges = subst (λ (n : ℕ). Returned 0 (n * 2) (max (s .tally .most) n * 2) (passFrom w s p i .edges) (l .edges)) (ap (λ (n : ℕ). recordedOf n (passFrom w s p i .answer)) room)
-            (doubled (s .tally .edges) (s .tally .most) (recordedOf (edgeRoom (passFrom w s p i)) (passFrom w s p i .answer)) _ _ _ (omega arith) (h .edges) (t .ofEdges));
+        edges = subst (λ (n : ℕ). Returned 0 (n * 2) (max (s .tally .most) n * 2) (t .edges) (l .edges)) (ap (λ (n : ℕ). recordedOf n (t .answer)) room)
+            (doubled (s .tally .edges) (s .tally .most) (recordedOf (edgeRoom t) (t .answer)) _ _ _ (omega (arith, z .0)) (h .edges) (r .ofEdges));
         top = h .top;
         heapCounted = h .heapCounted;
         heapFew = h .heapFew;
         heapIds = h .heapIds;
         heapKeys = h .heapKeys;
+        mostHeld = st .top;
+        pendingCounted = st .heldBelow;
+        pendingFew = st .topFits;
+        pending = st .given;
       }
     where
       doubled : (n m c : ℕ) (k e e0 : List ℕ) → n ≤ c → Returned 0 (n * 2) (m * 2) e e0 → Untouched (c * 2) k e → Returned 0 (c * 2) (max m c * 2) k e0
@@ -177,6 +187,10 @@ module _ (l : Lists) where
     heapFew = h .heapFew;
     heapIds = h .heapIds;
     heapKeys = h .heapKeys;
+    mostHeld = h .mostHeld;
+    pendingCounted = h .pendingCounted;
+    pendingFew = h .pendingFew;
+    pending = h .pending;
   }
 
   rule-link : (s : State) (i k j : ℕ) → i < s .tally .faces → k < 3 → Ruled l s → Ruled l (withLink s i k j)
@@ -192,6 +206,10 @@ module _ (l : Lists) where
     heapFew = h .heapFew;
     heapIds = h .heapIds;
     heapKeys = h .heapKeys;
+    mostHeld = h .mostHeld;
+    pendingCounted = h .pendingCounted;
+    pendingFew = h .pendingFew;
+    pending = h .pending;
   }
 
   rule-clear : (s : State) → Ruled l s → Ruled l (left (clearEdges s))
@@ -208,6 +226,10 @@ module _ (l : Lists) where
     heapFew = h .heapFew;
     heapIds = h .heapIds;
     heapKeys = h .heapKeys;
+    mostHeld = h .mostHeld;
+    pendingCounted = h .pendingCounted;
+    pendingFew = h .pendingFew;
+    pending = h .pending;
   }
 
   rule-complete : (s : State) → Ruled l s → Ruled l (left (complete s))
@@ -224,46 +246,61 @@ module _ (l : Lists) where
     heapFew = h .heapFew;
     heapIds = h .heapIds;
     heapKeys = h .heapKeys;
+    mostHeld = h .mostHeld;
+    pendingCounted = h .pendingCounted;
+    pendingFew = h .pendingFew;
+    pending = h .pending;
   }
 
-  rule-moves : Keeps (Ruled l)
-  rule-moves = record {
-    onVertex = λ s v _ h. rule-vertices s _ (s .tally .vertices + 1) (omega arith) (put-vertex (s .lists .vertices) (s .tally .vertices) v (s .tally .vertices + 1) (omega arith)) h;
-    onExchange = λ s b h. rule-vertices s _ (s .tally .vertices) (omega arith) (exchange-two (s .lists .vertices) (s .tally .vertices) b) h;
-    onFace = λ s corners neighbours m _ h. rule-face s corners neighbours m h;
-    onQueue = λ s e _ b h. with-heap s _ h (one-entry (s .tally .faces) (l .heapIds) (l .heapKeys) (heapOf s) e b (heap-ruled s h));
-    onPop = λ s n e h. with-heap s _ h (entry-out (s .tally .faces) (l .heapIds) (l .heapKeys) (heapOf s) n e (heap-ruled s h));
-    onDelete = λ s i b h. rule-delete s i b h;
-    onPass = λ w s p i a b z h. rule-pass w s p i a b z h;
-    onLink = λ s i k j b c h. rule-link s i k j b c h;
-    onClear = λ s h. rule-clear s h;
-    onComplete = λ s h. rule-complete s h;
-  }
+  abbrev LongRuled : State → Type 0
+  LongRuled s = SameLength l (s .lists) × Ruled l s
 
--- where nothing was used yet
-none-used : {A : Type 0} (z : A) (l : List A) → Returned z 0 0 l l
-none-used z l = record { back = record { zeros = λ i a b. let e : ⊥ = omega arith in absurd e }; never = stays 0 l }
+  rule-moves : Keeps LongRuled
+  rule-moves =
+      let long = same-moves l in
+      record {
+        onVertex = λ s v b h. (
+          long .onVertex s v b (h .0),
+          rule-vertices s _ (s .tally .vertices + 1) (omega arith) (put-vertex (s .lists .vertices) (s .tally .vertices) v (s .tally .vertices + 1) (omega arith)) (h .1),
+        );
+        onExchange = λ s b h. (long .onExchange s b (h .0), rule-vertices s _ (s .tally .vertices) (omega arith) (exchange-two (s .lists .vertices) (s .tally .vertices) b) (h .1));
+        onFace = λ s corners neighbours m b h. (long .onFace s corners neighbours m b (h .0), rule-face s corners neighbours m (h .1));
+        onQueue = λ s e r b h. (long .onQueue s e r b (h .0), with-heap s _ (h .1) (one-entry (s .tally .faces) (l .heapIds) (l .heapKeys) (heapOf s) e b (heap-ruled s (h .1))));
+        onPop = λ s n e h. (long .onPop s n e (h .0), with-heap s _ (h .1) (entry-out (s .tally .faces) (l .heapIds) (l .heapKeys) (heapOf s) n e (heap-ruled s (h .1))));
+        onDelete = λ s i b h. (long .onDelete s i b (h .0), rule-delete s i b (h .1));
+        onPass = λ y w s p i a b z h. (long .onPass y w s p i a b z (h .0), rule-pass y w s p i a b z (h .0) (h .1));
+        onLink = λ s i k j b c h. (long .onLink s i k j b c (h .0), rule-link s i k j b c (h .1));
+        onClear = λ s h. (long .onClear s (h .0), rule-clear s (h .1));
+        onComplete = λ s h. (long .onComplete s (h .0), rule-complete s (h .1));
+      }
 
 -- THE STORE RULE, however a run ends
 pub store-rule : (w : World) (x : VoronoiSimplex) (l : Lists) (e : End) (t : State) → run w x l ≡ ended e t → Ruled l t
 store-rule w x l e t q =
-    run-keeps (Ruled l) w x l (rule-moves l)
-    (record {
-      vertices = stays 0 (l .vertices);
-      faceIds = stays 0 (l .faceIds);
-      faceFloats = stays 0 (l .faceFloats);
-      deleted = stays 0 (l .deleted);
-      edgesCounted = omega arith;
-      edges = none-used 0 (l .edges);
-      top = 0;
-      heapCounted = omega arith;
-      heapFew = omega arith;
-      heapIds = none-used (noEntry .face) (l .heapIds);
-      heapKeys = none-used (noEntry .key) (l .heapKeys);
-    })
+    run-keeps (LongRuled l) w x l (rule-moves l) (
+      long-itself l,
+      record {
+        vertices = stays 0 (l .vertices);
+        faceIds = stays 0 (l .faceIds);
+        faceFloats = stays 0 (l .faceFloats);
+        deleted = stays 0 (l .deleted);
+        edgesCounted = omega arith;
+        edges = none-used 0 (l .edges);
+        top = 0;
+        heapCounted = omega arith;
+        heapFew = omega arith;
+        heapIds = none-used (noEntry .face) (l .heapIds);
+        heapKeys = none-used (noEntry .key) (l .heapKeys);
+        mostHeld = 0;
+        pendingCounted = omega arith;
+        pendingFew = omega arith;
+        pending = none-used 0 (l .pending);
+      },
+    )
     e
     t
     q
+    .1
 
 -- ---- every move keeps the counts within the rooms
 
@@ -284,6 +321,7 @@ module _ (l : Lists) where
       by theFaces = h .counts theFaces
       by theEdges = h .counts theEdges
       by theHeap = h .counts theHeap
+      by thePending = h .counts thePending
 
   room-face : (c : Tally) → c .faces < roomFor theFaces l → InRoom l c → InRoom l (faceCount (c .faces + 1) c)
   room-face c b h = record { counts = by; most = h .most }
@@ -293,6 +331,7 @@ module _ (l : Lists) where
       by theFaces = omega arith
       by theEdges = h .counts theEdges
       by theHeap = h .counts theHeap
+      by thePending = h .counts thePending
 
   room-heap : (c : Tally) (n : ℕ) → n ≤ roomFor theHeap l → InRoom l c → InRoom l (heapCount n c)
   room-heap c n b h = record { counts = by; most = h .most }
@@ -302,15 +341,17 @@ module _ (l : Lists) where
       by theFaces = h .counts theFaces
       by theEdges = h .counts theEdges
       by theHeap = b
+      by thePending = h .counts thePending
 
-  room-edges : (c : Tally) (n m x : ℕ) → n ≤ roomFor theEdges l → m ≤ roomFor theEdges l → InRoom l c → InRoom l (edgeCount n (mostCount m (missedCount x c)))
-  room-edges c n m x b d h = record { counts = by; most = d }
+  room-edges : (c : Tally) (n j m x : ℕ) → n ≤ roomFor theEdges l → j ≤ roomFor thePending l → m ≤ roomFor theEdges l → InRoom l c → InRoom l (edgeCount n (pendingCount j (mostCount m (missedCount x c))))
+  room-edges c n j m x b g d h = record { counts = by; most = d }
     where
-      by : (y : Store) → countFor y (edgeCount n (mostCount m (missedCount x c))) ≤ roomFor y l
+      by : (y : Store) → countFor y (edgeCount n (pendingCount j (mostCount m (missedCount x c)))) ≤ roomFor y l
       by theVertices = h .counts theVertices
       by theFaces = h .counts theFaces
       by theEdges = b
       by theHeap = h .counts theHeap
+      by thePending = g
 
   room-done : (c : Tally) (n : ℕ) → InRoom l c → InRoom l (doneCount n c)
   room-done c n h = record { counts = by; most = h .most }
@@ -320,18 +361,20 @@ module _ (l : Lists) where
       by theFaces = h .counts theFaces
       by theEdges = h .counts theEdges
       by theHeap = h .counts theHeap
+      by thePending = h .counts thePending
 
-  room-pass : (w : Numbers) (s : State) (p i : ℕ) → NeighboursIn (s .tally .faces) (s .tally .faces) (s .lists .faceIds) → i < s .tally .faces → Roomy s → InRoom l (withPass w s p i .tally)
-  room-pass w s p i a b h =
-      let t = pass-reached w s p i a b in
-      let room : edgeRoom (passFrom w s p i) ≡ edgeRoom (beforePass s i) = ap (λ (n : ℕ). n / 2) (t .sameRoom) in
-      let fits : recordedOf (edgeRoom (beforePass s i)) (passFrom w s p i .answer) ≤ edgeRoom (beforePass s i) = rw room at (t .fits) in
+  room-pass : (y : Walk) (w : Numbers) (s : State) (p i : ℕ) → NeighboursIn (s .tally .faces) (s .tally .faces) (s .lists .faceIds) → i < s .tally .faces → Roomy s → InRoom l (withPass y w s p i .tally)
+  room-pass y w s p i a b h =
+      let st = steady-here y w s p i a b in
+      let t = passFrom y w s p i .walk in
+      let room : edgeRoom t ≡ roomFor theEdges (s .lists) = ap (λ (n : ℕ). n / 2) (st .reached .sameRoom) in
+      let fits : recordedOf (roomFor theEdges (s .lists)) (t .answer) ≤ roomFor theEdges (s .lists) = rw room at (st .reached .fits) in
       let same = same-rooms l (s .lists) (h .0) theEdges in
-      room-edges (s .tally) _ _ _ (omega arith) (omega (arith, h .1 .most)) (h .1)
+      room-edges (s .tally) _ _ _ _ (omega arith) (omega (arith, st .fits, same-rooms l (s .lists) (h .0) thePending)) (omega (arith, h .1 .most)) (h .1)
 
   room-clear : (s : State) → Roomy s → InRoom l (left (clearEdges s) .tally)
   unfolding clearEdges _>>=_ look put
-  room-clear s h = room-edges (s .tally) 0 (s .tally .most) (s .tally .missed) (omega arith) (h .1 .most) (h .1)
+  room-clear s h = room-edges (s .tally) 0 (s .tally .pending) (s .tally .most) (s .tally .missed) (omega arith) (h .1 .counts thePending) (h .1 .most) (h .1)
 
   room-delete : (s : State) (i : ℕ) → Roomy s → InRoom l (left (delete i s) .tally)
   unfolding delete _>>=_ look put
@@ -349,7 +392,7 @@ module _ (l : Lists) where
     onQueue = λ s e b d h. (same-moves l .onQueue s e b d (h .0), room-heap (s .tally) _ (omega (arith, b, same-rooms l (s .lists) (h .0) theHeap, inside-pushed (heapOf s) e .counts)) (h .1));
     onPop = λ s n e h. (same-moves l .onPop s n e (h .0), room-heap (s .tally) _ (omega (arith, h .1 .counts theHeap, inside-popped (heapOf s) n .counts)) (h .1));
     onDelete = λ s i b h. (same-moves l .onDelete s i b (h .0), room-delete s i h);
-    onPass = λ w s p i a b z h. (same-moves l .onPass w s p i a b z (h .0), room-pass w s p i a b h);
+    onPass = λ y w s p i a b z h. (same-moves l .onPass y w s p i a b z (h .0), room-pass y w s p i a b h);
     onLink = λ s i k j b c h. (same-moves l .onLink s i k j b c (h .0), h .1);
     onClear = λ s h. (same-moves l .onClear s (h .0), room-clear s h);
     onComplete = λ s h. (same-moves l .onComplete s (h .0), room-complete s h);
@@ -363,6 +406,7 @@ module _ (l : Lists) where
       by theFaces = omega arith
       by theEdges = omega arith
       by theHeap = omega arith
+      by thePending = omega arith
 
 -- THE COUNTS ARE WITHIN THE ROOMS, however a run ends
 pub in-room : (w : World) (x : VoronoiSimplex) (l : Lists) (e : End) (t : State) → run w x l ≡ ended e t → InRoom l (t .tally)

@@ -76,9 +76,9 @@ module _ (w : World) (g : Carried) where
   from-pass p (onward a t) = from-regrow (p .best) (regrow (w .numbers) (p .expansion) t)
 
   -- the face is deleted
-  from-delete : (p : Passing) (t : State) → next (_>>_ (expand (w .numbers) (p .expansion)) (pure (p .best)) t) counted ≡ next (_>>_ (delete (p .expansion .face)) (pure p) t) onwards
+  from-delete : (p : Passing) (t : State) → next (_>>_ (expand (w .walkBy) (w .numbers) (p .expansion)) (pure (p .best)) t) counted ≡ next (_>>_ (delete (p .expansion .face)) (pure p) t) onwards
   unfolding expand delete thePass _>>=_ _>>_ look put pure
-  from-delete p t = from-pass p (silhouette (w .numbers) (p .expansion .point) (p .expansion .face) (storesLeft (delete (p .expansion .face) t)))
+  from-delete p t = from-pass p (silhouette (w .walkBy) (w .numbers) (p .expansion .point) (p .expansion .face) (storesLeft (delete (p .expansion .face) t)))
 
   from-visit : (e : Entry) (t : State) → next (visit w (g .tol) (g .best) e t) counted ≡ next (upToPassOf w g (some e) t) onwards
   unfolding visit settle _>>=_ look

@@ -32,7 +32,7 @@ use Rattle.epa_polytope.proofs.Steps.{Meets, meets-ends, meets-bind, me
 pub record Empty (s : State) : Type 0 where
   pub noVerts : s .tally .vertices ≡ 0
   pub noFaces : s .tally .faces ≡ 0
-  pub noEdges : s .tally .edges ≡ 0
+  pub clean : (s .tally .edges ≡ 0) × (s .tally .pending ≡ 0)
   pub noQueue : s .tally .heap ≡ 0
   pub noDone : s .tally .done ≡ 0
   pub noMost : s .tally .most ≡ 0
@@ -66,7 +66,7 @@ module _ (J : State → Type 0) (K : Keeps J) where
     pub queueFew : s .tally .heap ≤ q
     pub noneDone : s .tally .done ≡ 0
     pub noneMost : s .tally .most ≡ 0
-    pub noEdges : s .tally .edges ≡ 0
+    pub clean : (s .tally .edges ≡ 0) × (s .tally .pending ≡ 0)
     pub kept : J s
 
   -- the f starting faces are made
@@ -108,7 +108,7 @@ module _ (J : State → Type 0) (K : Keeps J) where
         };
         within = begun-within v f q s hv (omega arith) hq h;
         completed = h .noneDone;
-        noEdges = h .noEdges;
+        clean = h .clean;
         kept = h .kept;
       },
       h .madeAre,
@@ -127,7 +127,7 @@ module _ (J : State → Type 0) (K : Keeps J) where
       queueFew = h .queueFew;
       noneDone = h .noneDone;
       noneMost = h .noneMost;
-      noEdges = h .noEdges;
+      clean = h .clean;
       kept = K .onVertex s p room (h .kept);
     }
 
@@ -195,7 +195,7 @@ module _ (J : State → Type 0) (K : Keeps J) where
             queueFew = h .queueFew;
             noneDone = h .noneDone;
             noneMost = h .noneMost;
-            noEdges = h .noEdges;
+            clean = h .clean;
             kept = K .onFace s (three a b c) (three x y z) m room (h .kept);
           }
 
@@ -219,7 +219,7 @@ module _ (J : State → Type 0) (K : Keeps J) where
             queueFew = omega (arith, g .counts, h .queueFew);
             noneDone = h .noneDone;
             noneMost = h .noneMost;
-            noEdges = h .noEdges;
+            clean = h .clean;
             kept = K .onQueue s e room (omega (arith, h .queueFew, h .madeAre)) (h .kept);
           }
 
@@ -237,7 +237,7 @@ module _ (J : State → Type 0) (K : Keeps J) where
           (λ room. begun-queue q s _ li lq room h)
 
       begun-more : (n q : ℕ) (s : State) → Begun f v n q s → Begun f v n (q + 1) s
-      begun-more n q s h = record { vertsAre = h .vertsAre; madeAre = h .madeAre; neighboursIn = h .neighboursIn; cornersIn = h .cornersIn; liveFew = h .liveFew; queueIn = h .queueIn; queueFew = omega (arith, h .queueFew); noneDone = h .noneDone; noneMost = h .noneMost; noEdges = h .noEdges; kept = h .kept }
+      begun-more n q s h = record { vertsAre = h .vertsAre; madeAre = h .madeAre; neighboursIn = h .neighboursIn; cornersIn = h .cornersIn; liveFew = h .liveFew; queueIn = h .queueIn; queueFew = omega (arith, h .queueFew); noneDone = h .noneDone; noneMost = h .noneMost; clean = h .clean; kept = h .kept }
 
       pub meets-queueStart : (w : Numbers) (q : ℕ) (tol : Float) (i : ℕ) (b : Bool) (s : State) → q < f → i < f → Begun f v f q s → Meets (λ _ t. Begun f v f (q + 1) t) E (queueStart w tol i b s)
       unfolding queueStart
@@ -300,7 +300,7 @@ module _ (J : State → Type 0) (K : Keeps J) where
       meets-queueFour w tol _ _ _ _ s4 h4))
     where
       begun-exchanged : (s : State) → Begun 4 4 0 0 s → Begun 4 4 0 0 (withExchange s)
-      begun-exchanged s h = record { vertsAre = h .vertsAre; madeAre = h .madeAre; neighboursIn = h .neighboursIn; cornersIn = h .cornersIn; liveFew = h .liveFew; queueIn = h .queueIn; queueFew = h .queueFew; noneDone = h .noneDone; noneMost = h .noneMost; noEdges = h .noEdges; kept = K .onExchange s (omega (arith, h .vertsAre)) (h .kept) }
+      begun-exchanged s h = record { vertsAre = h .vertsAre; madeAre = h .madeAre; neighboursIn = h .neighboursIn; cornersIn = h .cornersIn; liveFew = h .liveFew; queueIn = h .queueIn; queueFew = h .queueFew; noneDone = h .noneDone; noneMost = h .noneMost; clean = h .clean; kept = K .onExchange s (omega (arith, h .vertsAre)) (h .kept) }
 
       meets-exchange : (s : State) → Begun 4 4 0 0 s → Meets (λ _ t. Begun 4 4 0 0 t) (Ending J theStart 4) (exchange s)
       meets-exchange s h = meets-look (Ending J theStart 4) _ _ s (meets-put (Ending J theStart 4) _ _ s (begun-exchanged s h))
@@ -319,7 +319,7 @@ module _ (J : State → Type 0) (K : Keeps J) where
     queueFew = omega (arith, h .noQueue);
     noneDone = h .noDone;
     noneMost = h .noMost;
-    noEdges = h .noEdges;
+    clean = h .clean;
     kept = j;
   }
 
@@ -426,7 +426,7 @@ nothing-kept = record {
   onQueue = λ _ _ _ _ _. tt;
   onPop = λ _ _ _ _. tt;
   onDelete = λ _ _ _ _. tt;
-  onPass = λ _ _ _ _ _ _ _ _. tt;
+  onPass = λ _ _ _ _ _ _ _ _ _. tt;
   onLink = λ _ _ _ _ _ _ _. tt;
   onClear = λ _ _. tt;
   onComplete = λ _ _. tt;
@@ -441,7 +441,7 @@ bounded w x s h = closing (epa w x s) (run-ends (λ _. Unit {0}) nothing-kept w 
     closing (ended e t) m = m .held .0
 
 pub empty-lent : (l : Lists) → Empty (stateOf l noneYet)
-empty-lent l = record { noVerts = refl; noFaces = refl; noEdges = refl; noQueue = refl; noDone = refl; noMost = refl }
+empty-lent l = record { noVerts = refl; noFaces = refl; clean = (refl, refl); noQueue = refl; noDone = refl; noMost = refl }
 
 -- WHAT EVERY MOVE KEEPS a run leaves, whatever way it ends, if it is so of the lists as lent
 pub run-keeps : (J : State → Type 0) (w : World) (x : VoronoiSimplex) (l : Lists) → Keeps J → J (stateOf l noneYet) → (e : End) (t : State) → run w x l ≡ ended e t → J t

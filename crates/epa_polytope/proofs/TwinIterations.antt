@@ -10,20 +10,21 @@ use borrow.Author.Tests.{eqb-false, leb-true, leb-false}
 use Rattle.vector.specs.declared.vec3.Vec3.{Vec3}
 use Rattle.vector.specs.Vector.{dotV}
 use Rattle.heap.specs.Heap.{Entry, entryAt}
-use Rattle.epa_polytope.specs.Silhouette.{Walked, facing, withMissed, pass, Question, WalkAnswer, Done, NoRoom}
-use Rattle.epa_polytope.specs.Start.{World, formatOf}
-use Rattle.epa_polytope.specs.Stores.{State, theEdges, theFaces, normalAt, pointAt, cornerAt, deletedAt, vertexAt, Lists, Three, roomFor, heapOf, Tally, Made}
-use Rattle.epa_polytope.specs.Steps.{noRoom, nothing, noSilhouette, allDeleted, keyLater, Found, newFaceNearer, converged, stuck, heapEmpty, enoughExpansions, Out, Act, next, _>>=_, _>>_, Nil, pure, stop, look, put, stopIf, doIf, three, pushFace, madeOf, answer, Numbers}
-use Rattle.epa_polytope.specs.Expansion.{delete, canBeSeenBy, meshOf, beforePass, passedTally, afterPass, passed, silhouette, link, Expansion, queueNew, growAt, grow, growAll, clearEdges, closeRing, regrow, expand, edgeFace, edgeCorner}
+use Rattle.epa_polytope.specs.Silhouette.{Question, WalkAnswer, Done, NoRoom, recordedOf}
+use Rattle.epa_polytope.specs.PlainWalk.{Walking}
+use Rattle.epa_polytope.specs.Start.{Walk, World, formatOf}
+use Rattle.epa_polytope.specs.Stores.{State, theEdges, theFaces, thePending, normalAt, pointAt, cornerAt, deletedAt, vertexAt, Lists, Three, roomFor, heapOf, Tally, Made}
+use Rattle.epa_polytope.specs.Steps.{noRoom, nothing, noSilhouette, allDeleted, keyLater, Found, newFaceNearer, converged, stuck, heapEmpty, enoughExpansions, Out, onward, ended, Act, next, _>>=_, _>>_, Nil, pure, stop, look, put, stopIf, doIf, three, pushFace, madeOf, answer, Numbers}
+use Rattle.epa_polytope.specs.Expansion.{delete, canBeSeenBy, passedTally, afterPass, passedIf, passed, silhouette, link, Expansion, queueNew, growAt, grow, growAll, clearEdges, closeRing, regrow, expand, edgeFace, edgeCorner}
 use Rattle.epa_polytope.specs.Run.{Best, bettered, settle, visit, visitIf, popEntry, popLive, complete, iterate, loop}
 use Rattle.epa_polytope.specs.Bounds.{CornersIn, NeighboursIn}
 use Rattle.epa_polytope.specs.Same.{Alike, Same, short, alike}
-use Rattle.epa_polytope.proofs.Alike.{alike-none, alike-entry}
-use Rattle.epa_polytope.proofs.Along.{Along, along-pass, alike-facing, alike-missed}
-use Rattle.epa_polytope.proofs.Along as A
-use Rattle.epa_polytope.proofs.Walks.{Asked, asked-facing}
+use Rattle.epa_polytope.proofs.Alike.{alike-entry}
+use Rattle.epa_polytope.proofs.PlainAlong.{PlainAlong, firstEdge, secondEdge, bothEdge, placing, firstPending, secondPending, bothPending, both}
+use Rattle.epa_polytope.proofs.EitherAlong.{alike-neighbours, along-from}
+use Rattle.epa_polytope.proofs.Walks.{Asked}
 use Rattle.epa_polytope.proofs.Lengths.{SameLength, same-rooms, same-walked}
-use Rattle.epa_polytope.proofs.Moves.{withFace, withLink}
+use Rattle.epa_polytope.proofs.Moves.{passFrom, withFace, withLink}
 use Rattle.epa_polytope.proofs.Steps.{meets-vertex}
 use Rattle.epa_polytope.proofs.Growth.{Ready, Visited, Growing, grown, growing, newer, meets-delete, meets-silhouette, meets-grow, meets-growAll, meets-expand}
 use Rattle.epa_polytope.proofs.Iterations.{IsLive, Best-ready, meets-popEntry, meets-popLive, visited, better-in, meets-visitIf, meets-complete, meets-iterate}
@@ -95,9 +96,11 @@ module _ (lent lent' : Lists) where
 
   -- ---- a pass
 
-  same-passed : (s t : State) (T T' : Walked) (n n' : ℕ) → n ≡ n' → Same s t → Alike (s .tally .faces) (T .deleted) (T' .deleted) → Alike (n * 2) (T .edges) (T' .edges) → T .missed ≡ T' .missed → Same (afterPass s T n) (afterPass t T' n')
-  same-passed s t T T' n n' e x d g y = record {
-    tally = ap (passedTally n (T .missed)) (x .tally) ∙ ap (λ (m : ℕ). passedTally m (T .missed) (t .tally)) e ∙ ap (λ (m : ℕ). passedTally n' m (t .tally)) y;
+  same-passed : (s t : State) (T T' : Walking) (n n' : ℕ) → n ≡ n' → Same s t → Alike (s .tally .faces) (T .walk .deleted) (T' .walk .deleted) → Alike (n * 2) (T .walk .edges) (T' .walk .edges)
+      → T .walk .missed ≡ T' .walk .missed → T .held ≡ T' .held → Alike (T .held * 2) (T .pending) (T' .pending) → Same (afterPass s T n) (afterPass t T' n')
+  same-passed s t T T' n n' e x d g y z q = record {
+    tally = ap (passedTally n (T .held) (T .walk .missed)) (x .tally) ∙ ap (λ (m : ℕ). passedTally m (T .held) (T .walk .missed) (t .tally)) e
+        ∙ ap (λ (m : ℕ). passedTally n' m (T .walk .missed) (t .tally)) z ∙ ap (λ (m : ℕ). passedTally n' (T' .held) m (t .tally)) y;
     vertices = x .vertices;
     faceIds = x .faceIds;
     faceFloats = x .faceFloats;
@@ -105,54 +108,64 @@ module _ (lent lent' : Lists) where
     edges = g;
     heapIds = x .heapIds;
     heapKeys = x .heapKeys;
+    pending = q;
   }
 
-  pub twins-passed : (s t : State) (T T' : Walked) → SameLength lent (afterPass s T 0 .lists) → SameLength lent' (afterPass t T' 0 .lists) → Twin lent lent' s t
-      → Along (s .tally .faces) (roomFor theEdges (s .lists)) (roomFor theEdges (t .lists)) T T' → Twins lent lent' (passed s T (T .answer)) (passed t T' (T' .answer))
-  twins-passed s t T T' d d' h (A.firstFull e b) =
-      subst (λ (a : WalkAnswer). Twins lent lent' (passed s T a) (passed t T' (T' .answer))) (sym e)
-      (first-short lent lent' (passed t T' (T' .answer)) (noRoom theEdges) _ (short theEdges (omega (arith, same-rooms lent (s .lists) (h .kept) theEdges, same-rooms lent' (t .lists) (h .kept') theEdges))))
-  twins-passed s t T T' d d' h (A.secondFull e b) =
-      subst (λ (a : WalkAnswer). Twins lent lent' (passed s T (T .answer)) (passed t T' a)) (sym e)
-      (second-short lent lent' (passed s T (T .answer)) (noRoom theEdges) _ (short theEdges (omega (arith, same-rooms lent (s .lists) (h .kept) theEdges, same-rooms lent' (t .lists) (h .kept') theEdges))))
-  twins-passed s t T T' d d' h (A.bothFull g) =
-      subst (λ (a : WalkAnswer). Twins lent lent' (passed s T a) (passed t T' (T' .answer))) (sym (g .answer))
-      (subst (λ (a : WalkAnswer). Twins lent lent' (passed s T NoRoom) (passed t T' a)) (sym (g .answer'))
-      (record { held = alike refl (same-passed s t T T' _ _ (g .rooms) (h .same) (g .deleted) (g .edges) (g .missed)) }))
-  twins-passed s t T T' d d' h (A.both n g) =
-      subst (λ (a : WalkAnswer). Twins lent lent' (passed s T a) (passed t T' (T' .answer))) (sym (g .answer))
-      (subst (λ (a : WalkAnswer). Twins lent lent' (passed s T (Done n)) (passed t T' a)) (sym (g .answer'))
-      (both-on lent lent' tt tt refl (record { same = same-passed s t T T' n n refl (h .same) (g .deleted) (g .edges) (g .missed); kept = d; kept' = d' })))
+  held-alike : (T T' : Walking) (j : ℕ) → T .held ≡ j → Alike (j * 2) (T .pending) (T' .pending) → Alike (T .held * 2) (T .pending) (T' .pending)
+  held-alike T T' j e a = subst (λ (n : ℕ). Alike (n * 2) (T .pending) (T' .pending)) (sym e) a
 
-  pub twins-silhouette : (w : Numbers) (p i : ℕ) (s t : State) → NeighboursIn (s .tally .faces) (s .tally .faces) (s .lists .faceIds)
-      → CornersIn (s .tally .vertices) (s .tally .faces) (s .lists .faceIds) → i < s .tally .faces → p < s .tally .vertices → Twin lent lent' s t
-      → Twins lent lent' (silhouette w p i s) (silhouette w p i t)
-  unfolding silhouette
-  twins-silhouette w p i s t a ins l hp h =
-      let N = s .tally .faces in
+  -- by what the walks say, whatever they leave
+  told-by : (s : State) (T : Walking) {b : Bool} {a : WalkAnswer} → T .short ≡ b → T .walk .answer ≡ a → passed s T ≡ passedIf b a (afterPass s T (recordedOf (roomFor theEdges (s .lists)) a))
+  told-by s T {b} {a} eb ea =
       let R = roomFor theEdges (s .lists) in
-      let R' = roomFor theEdges (t .lists) in
-      let ids = s .lists .faceIds in
-      let ids' = t .lists .faceIds in
+      ap (λ (x : Bool). passedIf x (T .walk .answer) (afterPass s T (recordedOf R (T .walk .answer)))) eb ∙ ap (λ (x : WalkAnswer). passedIf b x (afterPass s T (recordedOf R x))) ea
+
+  no-place : (a : WalkAnswer) (t : State) → passedIf true a t ≡ ended (noRoom thePending) t
+  no-place (Done n) t = refl
+  no-place NoRoom t = refl
+
+  told-short : (s : State) (T : Walking) → T .short ≡ true → passed s T ≡ ended (noRoom thePending) (afterPass s T (recordedOf (roomFor theEdges (s .lists)) (T .walk .answer)))
+  told-short s T e = told-by s T e refl ∙ no-place (T .walk .answer) _
+
+  pub twins-passed : (s t : State) (T T' : Walking) → SameLength lent (afterPass s T 0 .lists) → SameLength lent' (afterPass t T' 0 .lists) → Twin lent lent' s t
+      → PlainAlong (s .tally .faces) (roomFor theEdges (s .lists)) (roomFor theEdges (t .lists)) (roomFor thePending (s .lists)) (roomFor thePending (t .lists)) T T'
+      → Twins lent lent' (passed s T) (passed t T')
+  twins-passed s t T T' d d' h (firstEdge e x b) =
+      subst (λ (o : Out Nil). Twins lent lent' o (passed t T')) (sym (told-by s T e x))
+      (first-short lent lent' (passed t T') (noRoom theEdges) _ (short theEdges (omega (arith, same-rooms lent (s .lists) (h .kept) theEdges, same-rooms lent' (t .lists) (h .kept') theEdges))))
+  twins-passed s t T T' d d' h (secondEdge e x b) =
+      subst (λ (o : Out Nil). Twins lent lent' (passed s T) o) (sym (told-by t T' e x))
+      (second-short lent lent' (passed s T) (noRoom theEdges) _ (short theEdges (omega (arith, same-rooms lent (s .lists) (h .kept) theEdges, same-rooms lent' (t .lists) (h .kept') theEdges))))
+  twins-passed s t T T' d d' h (bothEdge j g e f) =
+      subst (λ (o : Out Nil). Twins lent lent' o (passed t T')) (sym (told-by s T e (g .walks .answer)))
+      (subst (λ (o : Out Nil). Twins lent lent' (ended (noRoom theEdges) (afterPass s T (roomFor theEdges (s .lists)))) o) (sym (told-by t T' f (g .walks .answer')))
+      (record { held = alike refl (same-passed s t T T' _ _ (g .walks .rooms) (h .same) (g .walks .deleted) (g .walks .edges) (g .walks .missed) (g .held ∙ sym (g .held')) (held-alike T T' j (g .held) (g .pending))) }))
+  twins-passed s t T T' d d' h (placing (firstPending e b)) =
+      subst (λ (o : Out Nil). Twins lent lent' o (passed t T')) (sym (told-short s T e))
+      (first-short lent lent' (passed t T') (noRoom thePending) _ (short thePending (omega (arith, same-rooms lent (s .lists) (h .kept) thePending, same-rooms lent' (t .lists) (h .kept') thePending))))
+  twins-passed s t T T' d d' h (placing (secondPending e b)) =
+      subst (λ (o : Out Nil). Twins lent lent' (passed s T) o) (sym (told-short t T' e))
+      (second-short lent lent' (passed s T) (noRoom thePending) _ (short thePending (omega (arith, same-rooms lent (s .lists) (h .kept) thePending, same-rooms lent' (t .lists) (h .kept') thePending))))
+  twins-passed s t T T' d d' h (placing (bothPending n j g e f p)) =
+      subst (λ (o : Out Nil). Twins lent lent' o (passed t T')) (sym (told-by s T e (g .walks .answer)))
+      (subst (λ (o : Out Nil). Twins lent lent' (ended (noRoom thePending) (afterPass s T n)) o) (sym (told-by t T' f (g .walks .answer')))
+      (record { held = alike refl (same-passed s t T T' n n refl (h .same) (g .walks .deleted) (g .walks .edges) (g .walks .missed) (g .held ∙ sym (g .held')) (held-alike T T' j (g .held) (g .pending))) }))
+  twins-passed s t T T' d d' h (placing (both n j g e f)) =
+      subst (λ (o : Out Nil). Twins lent lent' o (passed t T')) (sym (told-by s T e (g .walks .answer)))
+      (subst (λ (o : Out Nil). Twins lent lent' (onward tt (afterPass s T n)) o) (sym (told-by t T' f (g .walks .answer')))
+      (both-on lent lent' tt tt refl (record { same = same-passed s t T T' n n refl (h .same) (g .walks .deleted) (g .walks .edges) (g .walks .missed) (g .held ∙ sym (g .held')) (held-alike T T' j (g .held) (g .pending)); kept = d; kept' = d' })))
+
+  pub twins-silhouette : (y : Walk) (w : Numbers) (p i : ℕ) (s t : State) → NeighboursIn (s .tally .faces) (s .tally .faces) (s .lists .faceIds)
+      → CornersIn (s .tally .vertices) (s .tally .faces) (s .lists .faceIds) → i < s .tally .faces → p < s .tally .vertices → Twin lent lent' s t
+      → Twins lent lent' (silhouette y w p i s) (silhouette y w p i t)
+  unfolding silhouette
+  twins-silhouette y w p i s t a ins l hp h =
+      let N = s .tally .faces in
       let x = h .same in
-      let m = meshOf w (s .lists) p in
-      let m' = meshOf w (t .lists) p in
-      let W = beforePass s i in
-      let W' = beforePass t i in
-      let go : (k : ℕ) → k < 3 → facing ids i k ≡ facing ids' i k = λ k lk. alike-facing N ids ids' (x .faceIds) a i k l lk in
-      let more0 = alike-missed N ids ids' (x .faceIds) a i 0 l (omega arith) (ap (λ (c : Tally). c .missed) (x .tally)) in
-      let more1 = alike-missed N ids ids' (x .faceIds) a i 1 l (omega arith) more0 in
-      let more2 = alike-missed N ids ids' (x .faceIds) a i 2 l (omega arith) more1 in
-      let start : Along N R R' W W' = A.both 0 (record { answer = refl; answer' = refl; few = omega arith; few' = omega arith; missed = more2; deleted = x .deleted; edges = alike-none _ _; room = refl; room' = refl }) in
-      let along = along-pass N R R' m m' a (x .faceIds) (λ q y. same-seen (w .format) s t p q hp ins y x) W W' (facing ids i 0) (facing ids i 1) (facing ids i 2)
-      (asked-facing ids N a i 0 l (omega arith)) (asked-facing ids N a i 1 l (omega arith)) (asked-facing ids N a i 2 l (omega arith)) start in
-      let T = pass m W (facing ids i 0) (facing ids i 1) (facing ids i 2) in
-      let T' = pass m' W' (facing ids' i 0) (facing ids' i 1) (facing ids' i 2) in
-      let along' : Along N R R' T T' =
-      subst (λ (q : Question). Along N R R' T (pass m' W' q (facing ids' i 1) (facing ids' i 2))) (go 0 (omega arith))
-      (subst (λ (q : Question). Along N R R' T (pass m' W' (facing ids i 0) q (facing ids' i 2))) (go 1 (omega arith))
-      (subst (λ (q : Question). Along N R R' T (pass m' W' (facing ids i 0) (facing ids i 1) q)) (go 2 (omega arith)) along)) in
-      twins-passed s t T T' (same-walked lent w s p i (h .kept)) (same-walked lent' w t p i (h .kept')) h along'
+      let made : N ≡ t .tally .faces = ap (λ (c : Tally). c .faces) (x .tally) in
+      let b : NeighboursIn (t .tally .faces) (t .tally .faces) (t .lists .faceIds) = subst (λ (n : ℕ). NeighboursIn n n (t .lists .faceIds)) made (alike-neighbours N (s .lists .faceIds) (t .lists .faceIds) (x .faceIds) a) in
+      twins-passed s t (passFrom y w s p i) (passFrom y w t p i) (same-walked lent y w s p i a l (h .kept)) (same-walked lent' y w t p i b (rw (← made) l) (h .kept')) h
+      (along-from w s t p i a l x (λ q z. same-seen (w .format) s t p q hp ins z x) y)
 
   -- ---- an expansion
 
@@ -268,13 +281,13 @@ module _ (lent lent' : Lists) where
     unfolding delete _>>=_ look put
     twins-delete i s t l x = both-on lent lent' tt tt refl (twin-delete lent lent' s t i l x)
 
-    pub twins-expand : (s t : State) → Visited None f k (u .point) (u .face) s → Twin lent lent' s t → Twins lent lent' (expand w u s) (expand w u t)
+    pub twins-expand : (y : Walk) (s t : State) → Visited None f k (u .point) (u .face) s → Twin lent lent' s t → Twins lent lent' (expand y w u s) (expand y w u t)
     unfolding expand regrow
-    twins-expand s t h x =
+    twins-expand y s t h x =
         let K = nothing-kept in
         twins-then lent lent' _ _ _ _ s t (meets-delete None K f w k u (u .face) s h) (twins-delete (u .face) s t (h .faceIn) x) λ _ s1 t1 h1 x1.
-        twins-then lent lent' _ _ _ _ s1 t1 (meets-silhouette None K f w k u (u .face) (s .tally .faces) s1 h1)
-        (twins-silhouette w (u .point) (u .face) s1 t1 (h1 .sound .neighboursIn) (h1 .sound .cornersIn) (h1 .faceIn) (h1 .stage .pointIn) x1) λ _ s2 t2 h2 x2.
+        twins-then lent lent' _ _ _ _ s1 t1 (meets-silhouette None K f w k u y (u .face) (s .tally .faces) s1 h1)
+        (twins-silhouette y w (u .point) (u .face) s1 t1 (h1 .sound .neighboursIn) (h1 .sound .cornersIn) (h1 .faceIn) (h1 .stage .pointIn) x1) λ _ s2 t2 h2 x2.
         twins-look lent lent' _ _ s2 t2
         (twins-check lent lent' _ _ (nothing noSilhouette) _ _ s2 t2 (ap (λ (n : ℕ). eqb n 0) (ap (λ (c : Tally). c .edges) (x2 .same .tally))) x2
         (λ _. as-rest _ (s2 .tally .faces) (t2 .tally .faces) (s2 .tally .edges) (t2 .tally .edges) t2 (ap (λ (c : Tally). c .faces) (x2 .same .tally)) (ap (λ (c : Tally). c .edges) (x2 .same .tally))
@@ -303,7 +316,7 @@ module _ (lent lent' : Lists) where
         let l : bettered b (e .face) c .face < s .tally .faces = better-in None nothing-kept f w b (e .face) (s .tally .faces) c hb (h .faceIn) in
         twins-ifAnswer _ (w .numbers) converged _ _ _ s t l (h .sound .cornersIn) x
         (twins-ifAnswer _ (w .numbers) stuck _ _ _ s t l (h .sound .cornersIn) x
-        (twins-then lent lent' _ _ _ _ s t (meets-expand None nothing-kept f (w .numbers) k _ s h) (twins-expand f (w .numbers) k _ s t h x)
+        (twins-then lent lent' _ _ _ _ s t (meets-expand None nothing-kept f (w .numbers) k _ (w .walkBy) s h) (twins-expand f (w .numbers) k _ (w .walkBy) s t h x)
         (λ _ s1 t1 h1 x1. twins-pure lent lent' _ _ s1 t1 refl x1)))
 
     as-settle : (tol : Float) (b : Best) (e : Entry) (p p' : ℕ) (c c' : Float) (o : Out Best) (t : State) → p ≡ p' → c ≡ c' → Twins lent lent' o (settle w tol b e p c t) → Twins lent lent' o (settle w tol b e p' c' t)

@@ -165,7 +165,7 @@ module _ (lent lent' : Lists) where
   as-facesAnd o w tol m1 m2 m3 m4 n1 n2 n3 n4 t e1 e2 e3 e4 h = rw (← e1, ← e2, ← e3, ← e4) h
 
   begun-exchanged : (s : State) → Begun None nothing-kept 4 4 0 0 s → Begun None nothing-kept 4 4 0 0 (withExchange s)
-  begun-exchanged s h = record { vertsAre = h .vertsAre; madeAre = h .madeAre; neighboursIn = h .neighboursIn; cornersIn = h .cornersIn; liveFew = h .liveFew; queueIn = h .queueIn; queueFew = h .queueFew; noneDone = h .noneDone; noneMost = h .noneMost; noEdges = h .noEdges; kept = tt }
+  begun-exchanged s h = record { vertsAre = h .vertsAre; madeAre = h .madeAre; neighboursIn = h .neighboursIn; cornersIn = h .cornersIn; liveFew = h .liveFew; queueIn = h .queueIn; queueFew = h .queueFew; noneDone = h .noneDone; noneMost = h .noneMost; clean = h .clean; kept = tt }
 
   pub twins-four : (w : Numbers) (tol : Float) (s t : State) → Begun None nothing-kept 4 4 0 0 s → Twin lent lent' s t → Twins lent lent' (startFour w tol s) (startFour w tol t)
   unfolding startFour facesAnd exchange
@@ -249,6 +249,7 @@ twin-lent l l' = record {
     edges = alike-none _ _;
     heapIds = alike-none _ _;
     heapKeys = alike-none _ _;
+    pending = alike-none _ _;
   };
   kept = long-itself l;
   kept' = long-itself l';

@@ -124,7 +124,7 @@ under : (s t : State) (M : State → State) → Same s t → Same (M s) (M (stat
 under s t M h g = subst (λ (c : Tally). Same (M s) (M (stateOf (t .lists) c))) (h .tally) g
 
 retallied : (s t : State) → Same s t → Same s (stateOf (t .lists) (s .tally))
-retallied s t h = record { tally = refl; vertices = h .vertices; faceIds = h .faceIds; faceFloats = h .faceFloats; deleted = h .deleted; edges = h .edges; heapIds = h .heapIds; heapKeys = h .heapKeys }
+retallied s t h = record { tally = refl; vertices = h .vertices; faceIds = h .faceIds; faceFloats = h .faceFloats; deleted = h .deleted; edges = h .edges; heapIds = h .heapIds; heapKeys = h .heapKeys; pending = h .pending }
 
 same-heap : (s t : State) (p q : Heap) (c : ℕ) → AlikeHeap c p q → Same s t
     → Same (stateOf (withHeap (p .faces) (p .keys) (s .lists)) (heapCount (p .count) (s .tally))) (stateOf (withHeap (q .faces) (q .keys) (t .lists)) (heapCount (q .count) (s .tally)))
@@ -137,6 +137,7 @@ same-heap s t p q c a h = record {
   edges = h .edges;
   heapIds = subst (λ (n : ℕ). Alike n (p .faces) (q .faces)) (sym (a .count)) (a .faces);
   heapKeys = subst (λ (n : ℕ). Alike n (p .keys) (q .keys)) (sym (a .count)) (a .keys);
+  pending = h .pending;
 }
 
 module _ (l l' : Lists) where
@@ -162,6 +163,7 @@ module _ (l l' : Lists) where
           edges = g .edges;
           heapIds = g .heapIds;
           heapKeys = g .heapKeys;
+          pending = g .pending;
         });
         kept = same-moves l .onVertex s v room (h .kept);
         kept' = same-moves l' .onVertex t v room' (h .kept');
@@ -183,6 +185,7 @@ module _ (l l' : Lists) where
           edges = g .edges;
           heapIds = g .heapIds;
           heapKeys = g .heapKeys;
+          pending = g .pending;
         });
         kept = same-moves l .onFace s corners neighbours m room (h .kept);
         kept' = same-moves l' .onFace t corners neighbours m room' (h .kept');
@@ -230,6 +233,7 @@ module _ (l l' : Lists) where
           edges = g .edges;
           heapIds = g .heapIds;
           heapKeys = g .heapKeys;
+          pending = g .pending;
         };
         kept = same-moves l .onLink s i k j hi hk (h .kept);
         kept' = same-moves l' .onLink t i k j (omega (arith, e)) hk (h .kept');
@@ -250,6 +254,7 @@ module _ (l l' : Lists) where
           edges = g .edges;
           heapIds = g .heapIds;
           heapKeys = g .heapKeys;
+          pending = g .pending;
         };
         kept = same-moves l .onDelete s i hi (h .kept);
         kept' = same-moves l' .onDelete t i (omega (arith, e)) (h .kept');
@@ -269,6 +274,7 @@ module _ (l l' : Lists) where
           edges = alike-none _ _;
           heapIds = g .heapIds;
           heapKeys = g .heapKeys;
+          pending = g .pending;
         };
         kept = same-moves l .onClear s (h .kept);
         kept' = same-moves l' .onClear t (h .kept');
@@ -288,6 +294,7 @@ module _ (l l' : Lists) where
           edges = g .edges;
           heapIds = g .heapIds;
           heapKeys = g .heapKeys;
+          pending = g .pending;
         };
         kept = same-moves l .onComplete s (h .kept);
         kept' = same-moves l' .onComplete t (h .kept');
@@ -311,6 +318,7 @@ module _ (l l' : Lists) where
           edges = g .edges;
           heapIds = g .heapIds;
           heapKeys = g .heapKeys;
+          pending = g .pending;
         };
         kept = same-moves l .onExchange s few (h .kept);
         kept' = same-moves l' .onExchange t (omega (arith, e)) (h .kept');

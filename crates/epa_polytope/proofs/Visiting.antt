@@ -38,7 +38,7 @@ module _ (w : World) (tol : Float) (b : Best) (e : Entry) (p : ℕ) (c : Float) 
     gets-stuck t1 q = record { same = rw (← is, t, t1, q) }
 
     module _ {l1 : Lists} {r : Step} (t1 : isStuck (formatOf w) (neg (e .key)) (b .last) c (b1 .bound) ≡ false)
-        (g : Does stepOut (expand (w .numbers) (record { face = e .face; dist = neg (e .key); point = p; tol = tol })) l run l1 r) where
+        (g : Does stepOut (expand (w .walkBy) (w .numbers) (record { face = e .face; dist = neg (e .key); point = p; tol = tol })) l run l1 r) where
       pub settle-ended : {x : End} {y : Tally} → r ≡ Ended x y → Does visitOut (settle w tol b e p c) l run l1 (Visited.Ended x y)
       unfolding settle
       settle-ended t2 = rw (← is) (goes-on _ (not-done _ t) refl (goes-on _ (not-done _ t1) refl (ends-here _ g _ refl t2)))

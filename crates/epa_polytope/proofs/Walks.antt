@@ -9,7 +9,7 @@ use lib.ListN.{length, getD, set, length-set}
 use lib.Dec.{eqb, ltb}
 use borrow.Author.Tests.{eqb-true, eq-eqb, ne-eqb, ltb-true, ltb-false}
 use Rattle.epa_polytope.specs.Stores.{cornerIn, liveTo}
-use Rattle.epa_polytope.specs.Silhouette.{WalkAnswer, Done, NoRoom, Question, Mesh, Walked, walked, zeros, Lookup, Facing, FoundAt, Missing, nextCcwPtId, cornerOr0, misses, lookup, facing, withMissed, facingFrom, entered, edgePut, notedIf, noted, askIf, ask, walkIn, walk, pass}
+use Rattle.epa_polytope.specs.Silhouette.{WalkAnswer, Done, NoRoom, Question, Mesh, Walked, walked, zeros, Lookup, Facing, FoundAt, Missing, nextCcwPtId, cornerOr0, misses, lookup, facing, withMissed, facingFrom, entered, edgePut, notedIf, noted, askIf, ask, walkIn, walk, pass, recordedOf}
 use Rattle.epa_polytope.specs.Bounds.{NeighboursIn}
 use Rattle.epa_polytope.specs.Rule.{Untouched}
 use Rattle.epa_polytope.proofs.Basics.{EdgesIn, edges-put, live-delete}
@@ -156,11 +156,6 @@ asked-facing ids N h f k hf hk = record { faceIn = h .below f k hf hk; cornerIn 
 abbrev pub askedOf : ℕ → WalkAnswer → ℕ
 askedOf room (Done n) = n
 askedOf room NoRoom = suc room
-
--- how many edges a walk has recorded: as many as there is room for, where it found none for one more
-abbrev pub recordedOf : ℕ → WalkAnswer → ℕ
-recordedOf room (Done n) = n
-recordedOf room NoRoom = room
 
 -- the room for edges
 abbrev pub edgeRoom : Walked → ℕ

@@ -6,7 +6,7 @@ use mathlib.Core.List.{List}
 use lib.ListN.{getD}
 use lib.Dec.{eqb}
 use Rattle.heap.specs.Heap.{Heap}
-use Rattle.epa_polytope.specs.Stores.{Lists, State, Store, theVertices, theFaces, theEdges, theHeap, roomFor, cornerIn, neighbourIn, heapOf, live}
+use Rattle.epa_polytope.specs.Stores.{Lists, State, Store, theVertices, theFaces, theEdges, theHeap, thePending, roomFor, cornerIn, neighbourIn, heapOf, live}
 use Rattle.epa_polytope.specs.Steps.{End, answers, nothing, panics, noRoom, Found, singlePoint, converged, stuck, newFaceNearer, enoughExpansions, heapEmpty, Out, onward, ended, Over}
 use Rattle.epa_polytope.specs.Steps.{Lost, keyAtStart, noneHolds, noSilhouette, allDeleted, keyLater}
 use Rattle.epa_polytope.specs.Start.{VoronoiSimplex}
@@ -57,6 +57,7 @@ needed f k theVertices = 4 + k
 needed f k theFaces = bound f k
 needed f k theEdges = f + 2 * k
 needed f k theHeap = bound f k
+needed f k thePending = f + 2 * k
 
 -- an answer from a single point is one from no faces
 abbrev pub FromPoint : ℕ → Found → Type 0
@@ -143,7 +144,11 @@ suffices theVertices = 105
 suffices theFaces = 10710
 suffices theEdges = 206
 suffices theHeap = 10710
+suffices thePending = 206
 
--- enough of each
+-- enough of each; and of each but the pending questions, of which the recursive walk has none
 abbrev pub Ample : Lists → Type 0
 Ample l = (y : Store) → suffices y ≤ roomFor y l
+
+abbrev pub AmpleFour : Lists → Type 0
+AmpleFour l = (y : Store) → (y ≡ thePending → ⊥) → suffices y ≤ roomFor y l

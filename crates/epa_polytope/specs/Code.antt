@@ -1,5 +1,5 @@
 -- What the functions of the code do, ask of their caller and answer one another that has no name of its own in the run. Definitions only; who reads the public contracts need not read them.
-use mathlib.Core.Bool.{Bool, true, not, _||_}
+use mathlib.Core.Bool.{Bool, true, false, not, _||_}
 use mathlib.Core.List.{List}
 use mathlib.Core.Option.{Option, none, some}
 use mathlib.Core.Path.{_≡_}
@@ -17,7 +17,8 @@ use Rattle.vector.specs.declared.vec3.Vec3.{Vec3}
 use Rattle.epa_polytope.specs.declared.types.Begun.the-variants as Begun
 use Rattle.epa_polytope.specs.declared.types.Begun.{Begun}
 use Rattle.epa_polytope.specs.declared.types.Best.{Best}
-use Rattle.epa_polytope.specs.declared.types.End.the-variants.{Panics}
+use Rattle.epa_polytope.specs.declared.types.End.the-variants.{Panics, NoRoom as NoRoomIn}
+use Rattle.epa_polytope.specs.declared.types.Store.the-variants.{Edges, Pending}
 use Rattle.epa_polytope.specs.declared.types.PlainSoFar.{PlainSoFar}
 use Rattle.epa_polytope.specs.declared.types.WalkAnswer.{WalkAnswer}
 use Rattle.epa_polytope.specs.declared.types.WalkAnswer.the-variants.{Done, NoRoom}
@@ -35,6 +36,8 @@ use Rattle.epa_polytope.specs.declared.types.Three.{Three}
 use Rattle.epa_polytope.specs.declared.types.Visited.the-variants as Visited
 use Rattle.epa_polytope.specs.declared.types.Visited.{Visited}
 use Rattle.epa_polytope.specs.Contracts.{entryOf}
+use Rattle.epa_polytope.specs.Silhouette.{recordedOf}
+use Rattle.epa_polytope.specs.Expansion.{passedTally}
 use Rattle.epa_polytope.specs.Start.{World, begin, firstFar, startVertices, queueStart}
 use Rattle.epa_polytope.specs.Steps.{Act, Nil, stopIf, _>>_, Numbers, pushFace, enqueue, Out, onward}
 use Rattle.epa_polytope.specs.Stores.{Lists, State, stateOf, noneYet, doneCount}
@@ -82,6 +85,17 @@ restsBy (Done n) short empty = short || empty
 
 abbrev pub restsOf : PlainSoFar → Bool
 restsOf r = restsBy (r .answer) (r .short) (eqb (r .held) 0)
+
+-- ---- a pass is over
+
+-- how a run goes on after it, with the tally c
+abbrev pub finishedIf : Bool → WalkAnswer → Tally → Step
+finishedIf true a c = Ended (NoRoomIn Pending) c
+finishedIf false (Done n) c = Onward c
+finishedIf false NoRoom c = Ended (NoRoomIn Edges) c
+
+abbrev pub finishedOf : Tally → ℕ → PlainSoFar → Step
+finishedOf c room r = finishedIf (r .short) (r .answer) (passedTally (recordedOf room (r .answer)) (r .held) (r .missed) c)
 
 -- ---- a live face is popped
 

@@ -17,18 +17,21 @@ use Rattle.epa_polytope.specs.declared.types.Visited.{Visited}
 use Rattle.epa_polytope.specs.declared.types.Visited.the-variants as Visited
 use Rattle.epa_polytope.specs.declared.types.Finish.{Finish}
 use Rattle.epa_polytope.specs.declared.types.FaceId.{FaceId}
-use Rattle.epa_polytope.specs.Stores.{Lists, Tally, stateOf, lend}
+use Rattle.epa_polytope.specs.Stores.{Lists, Tally, stateOf, withPending, lend}
 use Rattle.epa_polytope.specs.Steps.{Numbers, numbersOf, Out, onward, ended, Act, Nil, Over}
-use Rattle.epa_polytope.specs.Start.{World, worldOf}
+use Rattle.epa_polytope.specs.Start.{Walk, World, worldOf, walkedAs}
 use Rattle.epa_polytope.specs.Run.{Best}
 
 -- the numbers of the code
 abbrev pub single : Numbers
 single = numbersOf binary32
 
--- and two shapes over them
+-- and two shapes over them, by the given walk
 abbrev pub singleWorld : Pose → Shape → Shape → World
 singleWorld = worldOf binary32
+
+abbrev pub singleBy : Walk → Pose → Shape → Shape → World
+singleBy y m g1 g2 = walkedAs y (singleWorld m g1 g2)
 
 -- ---- what a function does
 
@@ -73,9 +76,12 @@ abbrev pub when : {X : Type 0} → Moment → Lent X → List X
 when called s = s .entry .now
 when returned s = s .exit .now
 
--- all seven lent
+-- all but the pending questions lent, and all
 abbrev pub lent : Moment → Lent Float → Lent ℕ → Lent Float → Lent ℕ → Lent ℕ → Lent ℕ → Lent Float → Lists → Lists
 lent m v i x d e hi hk k = lend (when m v) (when m i) (when m x) (when m d) (when m e) (when m hi) (when m hk) k
+
+abbrev pub lentAll : Moment → Lent Float → Lent ℕ → Lent Float → Lent ℕ → Lent ℕ → Lent ℕ → Lent Float → Lent ℕ → Lists → Lists
+lentAll m v i x d e hi hk p k = lent m v i x d e hi hk (withPending (when m p) k)
 
 -- ---- the contract
 

@@ -115,7 +115,7 @@ upToPass w g = do
 
 -- the pass
 unfoldable pub thePass : World → Passing → Act Nil
-thePass w p = silhouette (w .numbers) (p .expansion .point) (p .expansion .face)
+thePass w p = silhouette (w .walkBy) (w .numbers) (p .expansion .point) (p .expansion .face)
 
 -- and what follows it (`expansion-by-pass`: an expansion is these three)
 unfoldable pub afterThePass : World → Carried → Passing → Act Carried

@@ -1,6 +1,6 @@
 -- An expansion of the polytope: of the loop of `EPA::closest_points` of src/query/epa/epa3.rs what follows the new vertex, with `can_be_seen_by`. Definitions only.
 use Prim.Native.Nat.{ℕ, zero, suc, _+_, _-_, _*_, _%_, max}
-use mathlib.Core.Bool.{Bool, _||_}
+use mathlib.Core.Bool.{Bool, true, false, _||_}
 use mathlib.Core.List.{List}
 use lib.ListN.{getD, set}
 use lib.Dec.{eqb}
@@ -8,9 +8,12 @@ use lib.Ieee.{Format, lt, le, neg}
 use Rattle.number.specs.Constants.{epsTol}
 use Rattle.vector.specs.Vector.{subV, dotV}
 use Rattle.projection.specs.Triangle.{isAffinelyDependent}
-use Rattle.epa_polytope.specs.Stores.{Lists, State, Tally, stateOf, withFaceIds, withDeleted, withEdges, edgeCount, mostCount, missedCount, roomFor, theEdges, vertexAt, normalOf, cornerIn}
+use Rattle.epa_polytope.specs.Stores.{Lists, State, Tally, stateOf, withFaceIds, withDeleted, withEdges, withPending, edgeCount, pendingCount, mostCount, missedCount}
+use Rattle.epa_polytope.specs.Stores.{roomFor, theEdges, thePending, vertexAt, normalOf, cornerIn}
 use Rattle.epa_polytope.specs.Stores.{linkedIn, pointAt, normalAt, cornerAt, deletedAt}
-use Rattle.epa_polytope.specs.Silhouette.{Question, WalkAnswer, Done, NoRoom, Mesh, Walked, walked, facing, withMissed, pass}
+use Rattle.epa_polytope.specs.Silhouette.{Question, WalkAnswer, Done, NoRoom, Mesh, walked, facing, withMissed, pass, recordedOf}
+use Rattle.epa_polytope.specs.PlainWalk.{Walking, walking, plainPass}
+use Rattle.epa_polytope.specs.Start.{Walk, recursive, plain}
 use Rattle.epa_polytope.specs.Steps.{Numbers, three, Out, onward, ended, Act, Nil, _>>=_, _>>_, look, put, ok, stopIf, doIf, branch, nothing, noRoom}
 use Rattle.epa_polytope.specs.Steps.{newFaceNearer, keyLater, noSilhouette, allDeleted, pushFace, queueFace, answer, madeOf}
 pub use Rattle.epa_polytope.specs.declared.types.Expansion.{Expansion}
@@ -32,34 +35,44 @@ canBeSeenBy f l point q =
     let pt = vertexAt (l .vertices) point .point in
     le (neg (epsTol f)) (dotV f (subV f pt p0) (normalOf (l .faceFloats) (q .face))) || isAffinelyDependent f (record { a = p1; b = p2; c = pt })
 
--- the tally and the state after a pass of which n edges are recorded
-abbrev pub passedTally : ℕ → ℕ → Tally → Tally
-passedTally n missed c = edgeCount n (mostCount (max (c .most) n) (missedCount missed c))
+-- the tally and the state after a pass of which n edges are recorded, and so many questions still held
+abbrev pub passedTally : ℕ → ℕ → ℕ → Tally → Tally
+passedTally n held missed c = edgeCount n (pendingCount held (mostCount (max (c .most) n) (missedCount missed c)))
 
-abbrev pub afterPass : State → Walked → ℕ → State
-afterPass s t n = stateOf (withDeleted (t .deleted) (withEdges (t .edges) (s .lists))) (passedTally n (t .missed) (s .tally))
+abbrev pub afterPass : State → Walking → ℕ → State
+afterPass s t n =
+    stateOf (withDeleted (t .walk .deleted) (withEdges (t .walk .edges) (withPending (t .pending) (s .lists)))) (passedTally n (t .held) (t .walk .missed) (s .tally))
 
-abbrev pub passed : State → Walked → WalkAnswer → Out Nil
-passed s t (Done n) = onward tt (afterPass s t n)
-passed s t NoRoom = ended (noRoom theEdges) (afterPass s t (roomFor theEdges (s .lists)))
+-- it goes on, unless there was no place for a question, or none for an edge
+abbrev pub passedIf : Bool → WalkAnswer → State → Out Nil
+passedIf true a t = ended (noRoom thePending) t
+passedIf false (Done n) t = onward tt t
+passedIf false NoRoom t = ended (noRoom theEdges) t
+
+abbrev pub passed : State → Walking → Out Nil
+passed s t = passedIf (t .short) (t .walk .answer) (afterPass s t (recordedOf (roomFor theEdges (s .lists)) (t .walk .answer)))
 
 -- what a walk from the vertex `point` reads
 abbrev pub meshOf : Numbers → Lists → ℕ → Mesh
 meshOf w l point = record { ids = l .faceIds; seen = canBeSeenBy (w .format) l point }
 
--- what it begins with: the three neighbours of the face i are looked up before the first is asked
-abbrev pub beforePass : State → ℕ → Walked
+-- what it begins with: the three neighbours of the face i are looked up before the first is asked, and no question is held
+abbrev pub beforePass : State → ℕ → Walking
 beforePass s i =
     let ids = s .lists .faceIds in
-    walked (s .lists .deleted) (s .lists .edges) (withMissed ids i 2 (withMissed ids i 1 (withMissed ids i 0 (s .tally .missed)))) (Done 0)
+    walking (walked (s .lists .deleted) (s .lists .edges) (withMissed ids i 2 (withMissed ids i 1 (withMissed ids i 0 (s .tally .missed)))) (Done 0)) (s .lists .pending) 0 false
+
+-- a pass by either walk; the recursive one holds no question
+unfoldable pub passBy : Walk → Mesh → Walking → Question → Question → Question → Walking
+passBy recursive m s a b c = walking (pass m (s .walk) a b c) (s .pending) (s .held) (s .short)
+passBy plain m s a b c = plainPass m s a b c
 
 -- `compute_silhouette` of the three neighbours of the face i, which is deleted already, in order
-unfoldable pub silhouette : Numbers → ℕ → ℕ → Act Nil
-silhouette w point i s =
+unfoldable pub silhouette : Walk → Numbers → ℕ → ℕ → Act Nil
+silhouette y w point i s =
     let l = s .lists in
     let ids = l .faceIds in
-    let t = pass (meshOf w l point) (beforePass s i) (facing ids i 0) (facing ids i 1) (facing ids i 2) in
-    passed s t (t .answer)
+    passed s (passBy y (meshOf w l point) (beforePass s i) (facing ids i 0) (facing ids i 1) (facing ids i 2))
 
 -- ---- the new faces
 
@@ -139,8 +152,8 @@ regrow w u = do
 -- ---- the expansion
 
 -- the polytope grows to the new vertex: the faces that it sees go, and new ones come
-unfoldable pub expand : Numbers → Expansion → Act Nil
-expand w u = do
+unfoldable pub expand : Walk → Numbers → Expansion → Act Nil
+expand y w u = do
   delete (u .face)
-  silhouette w (u .point) (u .face)
+  silhouette y w (u .point) (u .face)
   regrow w u

@@ -4,7 +4,7 @@ use mathlib.Core.List.{List}
 use Prim.Native.Nat.{ℕ, _*_, _<_, _≤_}
 use lib.ListN.{getD}
 use Rattle.heap.specs.Heap.{noEntry}
-use Rattle.epa_polytope.specs.Stores.{Lists, State, Tally, Store, theVertices, theFaces, theEdges, theHeap, roomFor}
+use Rattle.epa_polytope.specs.Stores.{Lists, State, Tally, Store, theVertices, theFaces, theEdges, theHeap, thePending, roomFor}
 
 -- ---- a list
 
@@ -24,7 +24,8 @@ pub record Returned {A : Type 0} (z : A) (n m : ℕ) (l l0 : List A) : Type 0 wh
 -- ---- the stores, as they were lent and as the run leaves them
 
 -- THE STORE RULE: each store holds the run's entries up to its count; places once used and now above the count are zero; places never used are untouched. No vertex and no face is given back. The most
--- edges in one pass are the tally's; the run does not count the most entries that the heap ever had: they end at some mark `top`, which is at most the number of faces made
+-- edges in one pass are the tally's; the run does not count the most entries that the heap ever had, nor the most questions ever held: they end at some marks `top`, which is at most the number of
+-- faces made, and `mostHeld`
 pub record Ruled (l : Lists) (s : State) : Type 0 where
   pub vertices : Untouched (s .tally .vertices * 9) (s .lists .vertices) (l .vertices)
   pub faceIds : Untouched (s .tally .faces * 6) (s .lists .faceIds) (l .faceIds)
@@ -37,6 +38,10 @@ pub record Ruled (l : Lists) (s : State) : Type 0 where
   pub heapFew : top ≤ s .tally .faces
   pub heapIds : Returned (noEntry .face) (s .tally .heap) top (s .lists .heapIds) (l .heapIds)
   pub heapKeys : Returned (noEntry .key) (s .tally .heap) top (s .lists .heapKeys) (l .heapKeys)
+  pub mostHeld : ℕ
+  pub pendingCounted : s .tally .pending ≤ mostHeld
+  pub pendingFew : mostHeld ≤ roomFor thePending l
+  pub pending : Returned 0 (s .tally .pending * 2) (mostHeld * 2) (s .lists .pending) (l .pending)
 
 -- how many entries of a store there are
 abbrev pub countFor : Store → Tally → ℕ
@@ -44,6 +49,7 @@ countFor theVertices c = c .vertices
 countFor theFaces c = c .faces
 countFor theEdges c = c .edges
 countFor theHeap c = c .heap
+countFor thePending c = c .pending
 
 -- and the counts stay within the rooms of the lists as lent
 pub record InRoom (l : Lists) (c : Tally) : Type 0 where

@@ -12,7 +12,7 @@ use Rattle.shape.specs.declared.vertex.Vertex.{Vertex}
 use Rattle.heap.specs.Heap.{Entry, entryAt, popped}
 use Rattle.epa_polytope.specs.Stores.{Lists, stateOf, withHeap, heapCount, doneCount, noneYet, normalAt, deletedAt, heapOf}
 use Rattle.epa_polytope.specs.Steps.{numbersOf, Out, Act, Nil, Over, _>>=_, _>>_, pure, look, put, doIf, branch, converged, stuck, enoughExpansions, heapEmpty, pushVertex, answer}
-use Rattle.epa_polytope.specs.Start.{World, formatOf, VoronoiSimplex, begin}
+use Rattle.epa_polytope.specs.Start.{Walk, World, formatOf, VoronoiSimplex, begin}
 use Rattle.epa_polytope.specs.Expansion.{expand}
 pub use Rattle.epa_polytope.specs.declared.types.Best.{Best}
 
@@ -56,7 +56,7 @@ settle w tol b e p c =
     let dist = neg (e .key) in do
       doIf (hasConverged k (b1 .bound) dist) (answer (w .numbers) converged (b1 .face))
       doIf (isStuck k dist (b .last) c (b1 .bound)) (answer (w .numbers) stuck (b1 .face))
-      expand (w .numbers) (record { face = e .face; dist = dist; point = p; tol = tol })
+      expand (w .walkBy) (w .numbers) (record { face = e .face; dist = dist; point = p; tol = tol })
       pure (record { face = b1 .face; bound = b1 .bound; last = dist })
 
 -- the vertex farthest along its normal is pushed
@@ -109,6 +109,6 @@ epa w x = begin w x >>= expansions w
 unfoldable pub run : World → VoronoiSimplex → Lists → Out Over
 run w x l = epa w x (stateOf l noneYet)
 
--- `EPA::closest_points`, for any format and any support function
-unfoldable pub closestPoints : Format → (Vec3 → Vertex) → VoronoiSimplex → Lists → Out Over
-closestPoints f supp x l = run (record { numbers = numbersOf f; supp = supp }) x l
+-- `EPA::closest_points`, by either walk, for any format and any support function
+unfoldable pub closestPoints : Walk → Format → (Vec3 → Vertex) → VoronoiSimplex → Lists → Out Over
+closestPoints y f supp x l = run (record { numbers = numbersOf f; supp = supp; walkBy = y }) x l

@@ -24,6 +24,7 @@ pub record Same (s t : State) : Type 0 where
   pub edges : Alike (s .tally .edges * 2) (s .lists .edges) (t .lists .edges)
   pub heapIds : Alike (s .tally .heap) (s .lists .heapIds) (t .lists .heapIds)
   pub heapKeys : Alike (s .tally .heap) (s .lists .heapKeys) (t .lists .heapKeys)
+  pub pending : Alike (s .tally .pending * 2) (s .lists .pending) (t .lists .pending)
 
 -- an end over the lists l that is for want of room, of a store for which the lists l' have more
 pub data Short (l l' : Lists) : End → Type 0 where

@@ -102,6 +102,11 @@ unfoldable pub walkIn : ℕ → Mesh → Walked → Question → Walked
 walkIn zero m s q = s
 walkIn (suc n) m s q = ask m (walkIn n m) s q
 
+-- how many edges a walk has recorded: as many as there is room for, where it found none for one more
+abbrev pub recordedOf : ℕ → WalkAnswer → ℕ
+recordedOf room (Done n) = n
+recordedOf room NoRoom = room
+
 -- how many places of a list are zero
 unfoldable pub zeros : List ℕ → ℕ
 zeros [] = 0

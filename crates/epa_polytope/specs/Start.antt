@@ -13,23 +13,30 @@ use Rattle.vector.specs.declared.pose.Pose.{Pose}
 use Rattle.shape.specs.declared.vertex.Vertex.{Vertex}
 use Rattle.shape.specs.declared.support.Shape.{Shape}
 use Rattle.shape.specs.Support.{fromShapes}
+pub use Rattle.epa_polytope.specs.declared.types.Walk.{Walk}
+pub use Rattle.epa_polytope.specs.declared.types.Walk.the-variants.{Recursive as recursive, Plain as plain}
 pub use Rattle.simplex.specs.declared.voronoi_simplex.VoronoiSimplex.{VoronoiSimplex}
 use Rattle.simplex.specs.Simplex.{isSimplex, vertexAt as cornerOf}
 use Rattle.epa_polytope.specs.Stores.{Made, stateOf, withVertices, vertexAt, putVertex, pointAt, normalAt}
 use Rattle.epa_polytope.specs.Steps.{Numbers, numbersOf, three, Act, Nil, _>>=_, _>>_, pure, stop, look, put, ok, stopIf, doIf, branch, answers, nothing, panics}
 use Rattle.epa_polytope.specs.Steps.{singlePoint, keyAtStart, noneHolds, notASimplex, noThirdVertex, pushVertex, pushFace, enqueue, queueFace, madeOf}
 
--- the numbers, and the two shapes, by the vertex that they answer to a direction
+-- the numbers; the two shapes, by the vertex that they answer to a direction; and which walk finds the silhouette
 pub record World : Type 0 where
   pub numbers : Numbers
   pub supp : Vec3 → Vertex
+  pub walkBy : Walk
 
 abbrev pub formatOf : World → Format
 formatOf w = w .numbers .format
 
--- two shapes of the closed choice, the second in a pose, with the Rust's own face maker
+-- two shapes of the closed choice, the second in a pose, with the Rust's own face maker and its own walk
 abbrev pub worldOf : Format → Pose → Shape → Shape → World
-worldOf f m g1 g2 = record { numbers = numbersOf f; supp = fromShapes f m g1 g2 }
+worldOf f m g1 g2 = record { numbers = numbersOf f; supp = fromShapes f m g1 g2; walkBy = recursive }
+
+-- with the given walk
+abbrev pub walkedAs : Walk → World → World
+walkedAs y w = record { numbers = w .numbers; supp = w .supp; walkBy = y }
 
 -- ---- the vertices
 

@@ -14,14 +14,14 @@ use Rattle.shape.specs.declared.vertex.Vertex.{Vertex}
 use Rattle.heap.specs.Heap.{Heap, heap}
 pub use Rattle.epa_polytope.specs.declared.types.Tally.{Tally}
 pub use Rattle.epa_polytope.specs.declared.types.Store.{Store}
-pub use Rattle.epa_polytope.specs.declared.types.Store.the-variants.{Vertices as theVertices, Faces as theFaces, Edges as theEdges, Heap as theHeap}
+pub use Rattle.epa_polytope.specs.declared.types.Store.the-variants.{Vertices as theVertices, Faces as theFaces, Edges as theEdges, Heap as theHeap, Pending as thePending}
 pub use Rattle.epa_polytope.specs.declared.types.Made.{Made}
 pub use Rattle.epa_polytope.specs.declared.types.Three.{Three}
 
 -- ---- the lists
 
 -- nine numbers a vertex; of a face six whole numbers, its corners and its neighbours, six floats, its normal and its weights, and a mark, whether it is deleted (0: live); of an edge two numbers, a
--- face and a corner of it; and the heap's faces and keys
+-- face and a corner of it; the heap's faces and keys; and of a pending question two numbers, a face and a corner of it
 pub record Lists : Type 0 where
   pub vertices : List Float
   pub faceIds : List ℕ
@@ -30,27 +30,31 @@ pub record Lists : Type 0 where
   pub edges : List ℕ
   pub heapIds : List ℕ
   pub heapKeys : List Float
+  pub pending : List ℕ
 
 -- one setter for each
 abbrev pub withVertices : List Float → Lists → Lists
-withVertices x l = record { vertices = x; faceIds = l .faceIds; faceFloats = l .faceFloats; deleted = l .deleted; edges = l .edges; heapIds = l .heapIds; heapKeys = l .heapKeys }
+withVertices x l = record { vertices = x; faceIds = l .faceIds; faceFloats = l .faceFloats; deleted = l .deleted; edges = l .edges; heapIds = l .heapIds; heapKeys = l .heapKeys; pending = l .pending }
 
 abbrev pub withFaceIds : List ℕ → Lists → Lists
-withFaceIds x l = record { vertices = l .vertices; faceIds = x; faceFloats = l .faceFloats; deleted = l .deleted; edges = l .edges; heapIds = l .heapIds; heapKeys = l .heapKeys }
+withFaceIds x l = record { vertices = l .vertices; faceIds = x; faceFloats = l .faceFloats; deleted = l .deleted; edges = l .edges; heapIds = l .heapIds; heapKeys = l .heapKeys; pending = l .pending }
 
 abbrev pub withFaceFloats : List Float → Lists → Lists
-withFaceFloats x l = record { vertices = l .vertices; faceIds = l .faceIds; faceFloats = x; deleted = l .deleted; edges = l .edges; heapIds = l .heapIds; heapKeys = l .heapKeys }
+withFaceFloats x l = record { vertices = l .vertices; faceIds = l .faceIds; faceFloats = x; deleted = l .deleted; edges = l .edges; heapIds = l .heapIds; heapKeys = l .heapKeys; pending = l .pending }
 
 abbrev pub withDeleted : List ℕ → Lists → Lists
-withDeleted x l = record { vertices = l .vertices; faceIds = l .faceIds; faceFloats = l .faceFloats; deleted = x; edges = l .edges; heapIds = l .heapIds; heapKeys = l .heapKeys }
+withDeleted x l = record { vertices = l .vertices; faceIds = l .faceIds; faceFloats = l .faceFloats; deleted = x; edges = l .edges; heapIds = l .heapIds; heapKeys = l .heapKeys; pending = l .pending }
 
 abbrev pub withEdges : List ℕ → Lists → Lists
-withEdges x l = record { vertices = l .vertices; faceIds = l .faceIds; faceFloats = l .faceFloats; deleted = l .deleted; edges = x; heapIds = l .heapIds; heapKeys = l .heapKeys }
+withEdges x l = record { vertices = l .vertices; faceIds = l .faceIds; faceFloats = l .faceFloats; deleted = l .deleted; edges = x; heapIds = l .heapIds; heapKeys = l .heapKeys; pending = l .pending }
 
 abbrev pub withHeap : List ℕ → List Float → Lists → Lists
-withHeap x y l = record { vertices = l .vertices; faceIds = l .faceIds; faceFloats = l .faceFloats; deleted = l .deleted; edges = l .edges; heapIds = x; heapKeys = y }
+withHeap x y l = record { vertices = l .vertices; faceIds = l .faceIds; faceFloats = l .faceFloats; deleted = l .deleted; edges = l .edges; heapIds = x; heapKeys = y; pending = l .pending }
 
--- the seven lists in the places of k's
+abbrev pub withPending : List ℕ → Lists → Lists
+withPending x l = record { vertices = l .vertices; faceIds = l .faceIds; faceFloats = l .faceFloats; deleted = l .deleted; edges = l .edges; heapIds = l .heapIds; heapKeys = l .heapKeys; pending = x }
+
+-- all but the pending questions in the places of k's
 abbrev pub lend : List Float → List ℕ → List Float → List ℕ → List ℕ → List ℕ → List Float → Lists → Lists
 lend v i x d e hi hk k = withVertices v (withFaceIds i (withFaceFloats x (withDeleted d (withEdges e (withHeap hi hk k)))))
 
@@ -67,34 +71,38 @@ roomFor theVertices l = length (l .vertices) / 9
 roomFor theFaces l = faceRoom l
 roomFor theEdges l = length (l .edges) / 2
 roomFor theHeap l = heapRoom l
+roomFor thePending l = length (l .pending) / 2
 
 -- ---- the tally: the entries of each store, the expansions completed, the most edges recorded in one pass, and the lookups that missed
 
 -- one setter for each
 abbrev pub vertexCount : ℕ → Tally → Tally
-vertexCount n c = record { vertices = n; faces = c .faces; edges = c .edges; heap = c .heap; done = c .done; most = c .most; missed = c .missed }
+vertexCount n c = record { vertices = n; faces = c .faces; edges = c .edges; heap = c .heap; pending = c .pending; done = c .done; most = c .most; missed = c .missed }
 
 abbrev pub faceCount : ℕ → Tally → Tally
-faceCount n c = record { vertices = c .vertices; faces = n; edges = c .edges; heap = c .heap; done = c .done; most = c .most; missed = c .missed }
+faceCount n c = record { vertices = c .vertices; faces = n; edges = c .edges; heap = c .heap; pending = c .pending; done = c .done; most = c .most; missed = c .missed }
 
 abbrev pub edgeCount : ℕ → Tally → Tally
-edgeCount n c = record { vertices = c .vertices; faces = c .faces; edges = n; heap = c .heap; done = c .done; most = c .most; missed = c .missed }
+edgeCount n c = record { vertices = c .vertices; faces = c .faces; edges = n; heap = c .heap; pending = c .pending; done = c .done; most = c .most; missed = c .missed }
 
 abbrev pub heapCount : ℕ → Tally → Tally
-heapCount n c = record { vertices = c .vertices; faces = c .faces; edges = c .edges; heap = n; done = c .done; most = c .most; missed = c .missed }
+heapCount n c = record { vertices = c .vertices; faces = c .faces; edges = c .edges; heap = n; pending = c .pending; done = c .done; most = c .most; missed = c .missed }
+
+abbrev pub pendingCount : ℕ → Tally → Tally
+pendingCount n c = record { vertices = c .vertices; faces = c .faces; edges = c .edges; heap = c .heap; pending = n; done = c .done; most = c .most; missed = c .missed }
 
 abbrev pub doneCount : ℕ → Tally → Tally
-doneCount n c = record { vertices = c .vertices; faces = c .faces; edges = c .edges; heap = c .heap; done = n; most = c .most; missed = c .missed }
+doneCount n c = record { vertices = c .vertices; faces = c .faces; edges = c .edges; heap = c .heap; pending = c .pending; done = n; most = c .most; missed = c .missed }
 
 abbrev pub mostCount : ℕ → Tally → Tally
-mostCount n c = record { vertices = c .vertices; faces = c .faces; edges = c .edges; heap = c .heap; done = c .done; most = n; missed = c .missed }
+mostCount n c = record { vertices = c .vertices; faces = c .faces; edges = c .edges; heap = c .heap; pending = c .pending; done = c .done; most = n; missed = c .missed }
 
 abbrev pub missedCount : ℕ → Tally → Tally
-missedCount n c = record { vertices = c .vertices; faces = c .faces; edges = c .edges; heap = c .heap; done = c .done; most = c .most; missed = n }
+missedCount n c = record { vertices = c .vertices; faces = c .faces; edges = c .edges; heap = c .heap; pending = c .pending; done = c .done; most = c .most; missed = n }
 
 -- nothing is made yet
 abbrev pub noneYet : Tally
-noneYet = record { vertices = 0; faces = 0; edges = 0; heap = 0; done = 0; most = 0; missed = 0 }
+noneYet = record { vertices = 0; faces = 0; edges = 0; heap = 0; pending = 0; done = 0; most = 0; missed = 0 }
 
 -- ---- the state of a run
 

@@ -24,5 +24,6 @@ pub use types::Store;
 pub use types::Tally;
 pub use types::Three;
 pub use types::Visited;
+pub use types::Walk;
 pub use types::WalkAnswer;
 pub use types::WalkSoFar;

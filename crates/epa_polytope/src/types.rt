@@ -42,6 +42,12 @@ pub struct PlainSoFar {
     pub short: bool,
 }
 
+// Which walk a run uses: the Rust's own, or the one without recursion.
+pub enum Walk {
+    Recursive,
+    Plain,
+}
+
 // What a face is made of, besides the numbers of its corners and neighbours: the normal, the weights of the
 // corners, and whether it holds the projection of the origin (of `Face::new`: `normal`, `bcoords` and `proj_inside`).
 pub struct Made {
@@ -64,6 +70,7 @@ pub struct Tally {
     pub faces: usize,
     pub edges: usize,
     pub heap: usize,
+    pub pending: usize,
     pub done: usize,
     pub most: usize,
     pub missed: usize,
@@ -75,6 +82,7 @@ pub enum Store {
     Faces,
     Edges,
     Heap,
+    Pending,
 }
 
 // Why there is an answer.

@@ -23,6 +23,7 @@ fn none_yet() -> Tally
         faces: 0,
         edges: 0,
         heap: 0,
+        pending: 0,
         done: 0,
         most: 0,
         missed: 0,

@@ -58,6 +58,7 @@ fn main() {
     let mut edges = [0usize; 412];
     let mut heap_ids = [0usize; 1000];
     let mut heap_keys = [0.0f32; 1000];
+    let mut pending = [0usize; 412];
     let mut state = begun(&mut out);
     let mut n: u64 = 0;
     while n < MOST_TURNS {
@@ -73,6 +74,7 @@ fn main() {
             &mut edges,
             &mut heap_ids,
             &mut heap_keys,
+            &mut pending,
         );
         if !is_open(next) {
             finish(next, n, &mut out);
@@ -268,6 +270,7 @@ fn turn(
     edges: &mut [usize],
     heap_ids: &mut [usize],
     heap_keys: &mut [f32],
+    pending: &mut [usize],
 ) -> State {
     let State::Open(given, at) = state else {
         return State::Failed(0);
@@ -302,6 +305,7 @@ fn turn(
         edges,
         heap_ids,
         heap_keys,
+        pending,
     );
     after(answer, window, place)
 }

@@ -28,9 +28,10 @@ pub fn answer_next(
     edges: &mut [usize],
     heap_ids: &mut [usize],
     heap_keys: &mut [f32],
+    pending: &mut [usize],
 ) -> Turn
     ensures { λ r. ⌜ Ends (turnOf binary32 (now (bytes .entry)) at base number (now (out .entry)) place) (told r (now (out .exit)))
-        (λ m. allLent m vertices ids floats deleted edges «heap_ids» «heap_keys») ⌝ }
+        (λ m. allLent m vertices ids floats deleted edges «heap_ids» «heap_keys» pending) ⌝ }
 {
     if MOST_RECORDS < number {
         return Turn::AllRead;
@@ -56,6 +57,7 @@ pub fn answer_next(
                 edges,
                 heap_ids,
                 heap_keys,
+                pending,
             );
             let written = lines::write_line(out, place, number, outcome);
             line_turn(next, written)

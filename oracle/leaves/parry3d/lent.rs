@@ -7,13 +7,14 @@ use alloc::collections;
 use core::ops::{Deref, DerefMut};
 use std::panic;
 
-/// The stores that epa3.rs pushes into.
+/// The stores that epa3.rs pushes into, and the one that its copy with the plain walk has besides.
 #[derive(Copy, Clone, Debug, PartialEq)]
 pub enum Store {
     Vertices,
     Faces,
     Edges,
     Heap,
+    Pending,
 }
 
 /// What unwinds out of a push into a full store.
@@ -66,6 +67,11 @@ impl<T> Vec<T> {
         self.room.test(self.items.len());
         self.items.push(item);
         self.most = self.most.max(self.items.len());
+    }
+
+    #[inline]
+    pub fn pop(&mut self) -> Option<T> {
+        self.items.pop()
     }
 
     #[inline]

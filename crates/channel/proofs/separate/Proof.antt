@@ -10,7 +10,7 @@ use Rattle.channel.proofs.separate.Tie as tie
 returns : tie.Need-returns
 returns c =
     meets binary32 _ _ _ _ _ _ _ (place tie.After-start-of (search) .start-of .ensures) (place tie.After-closest-points (search) .closest-points .ensures .0)
-    (place tie.After-enum-told (search) .enum-told .given .1) (place tie.After-closest-points2 (search) .closest-points2 .ensures) (c .outcome-of .ensures)
+    (place tie.After-enum-told (search) .enum-told .given .1) (place tie.After-closest-points-plain (search) .closest-points-plain .ensures) (c .outcome-of .ensures)
 
 returns-2 : tie.Need-returns-2
 returns-2 c =
@@ -34,4 +34,4 @@ returns-5 c =
 
 pub separate-spec : {M : Type 1} → statement M
 separate-spec = tie.close (tie.spec (λ c κs. tt) (λ c κs. tt) (λ c. search needs) (λ c κs. tt) (λ c κs. tt) (λ c. search needs) (λ c. search needs) (λ c. search needs) (λ c. search needs)
-    (λ c. search) (λ c. search) (λ c. search) (λ c. search) (λ c. search) (λ c. search) (λ c. search) returns returns-2 returns-3 returns-4 returns-5)
+    (λ c. search) (λ c. search) (λ c. search) (λ c. search) (λ c. search) (λ c. search) (λ c. search) (λ c. search) returns returns-2 returns-3 returns-4 returns-5)

@@ -25,4 +25,4 @@ returns c = (
 )
 
 pub run-row-spec : {M : Type 1} → statement M
-run-row-spec = tie.close (tie.spec mul-pairs there lent (λ c κs. tt) (λ c. search needs) (λ c. search needs) (λ c. search needs) (λ c. search needs) (λ c. search needs) (λ c. search needs) returns)
+run-row-spec = tie.close (tie.spec mul-pairs there lent (λ c κs. tt) (λ c. search needs) (λ c. search needs) (λ c. search needs) (λ c. search needs) (λ c. search needs) (λ c. search needs) (λ c. search needs) returns)

@@ -43,4 +43,4 @@ returns-3 c =
 
 pub run-numbers-spec : {M : Type 1} → statement M
 run-numbers-spec = tie.close (tie.spec (λ c κs. tt) (λ c. search needs) (λ c. search needs) (λ c κs. tt) returns (λ c κs. tt) (λ c. search needs) (λ c. search needs) (λ c κs. tt) returns-2
-    (λ c κs. tt) (λ c κs. tt) (λ c. search) (λ c. search) (λ c. search) (λ c. search) (λ c. search) (λ c. search) (λ c. search) returns-3)
+    (λ c κs. tt) (λ c κs. tt) (λ c. search) (λ c. search) (λ c. search) (λ c. search) (λ c. search) (λ c. search) (λ c. search) (λ c. search) returns-3)

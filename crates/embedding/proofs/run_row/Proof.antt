@@ -19,7 +19,7 @@ lent c = let start = place tie.Start (search) in pairs-lent (start .args .row) (
 
 -- where the function began
 abbrev start : tie.After-run-numbers → tie.Start
-start c = search
+start c = c .before .before .before .before .before .before .before .before .before .before .before .before .before .before .before .before .before
 
 returns : tie.Need-returns
 returns c = (
@@ -29,4 +29,4 @@ returns c = (
 )
 
 pub run-row-spec : {M : Type 1} → statement M
-run-row-spec = tie.close (tie.spec mul-pairs there lent (λ c κs. tt) (λ c. search needs) (λ c. search needs) (λ c. search needs) (λ c. search needs) (λ c. search needs) (λ c. search needs) returns)
+run-row-spec = tie.close (tie.spec mul-pairs there lent (λ c κs. tt) (λ c. search needs) (λ c. search needs) (λ c. search needs) (λ c. search needs) (λ c. search needs) (λ c. search needs) (λ c. search needs) returns)

@@ -15,14 +15,14 @@ abbrev begun : tie.After-begun2 → tie.After-begin
 begun c = search
 
 returns : tie.Need-returns
-returns c k = start-ends _ _ (here (place tie.After-begin (search) .begin .ensures) _ refl) (place tie.After-begun (search) .begun .given .1)
+returns c k = start-ends _ _ _ (here (place tie.After-begin (search) .begin .ensures) _ refl) (place tie.After-begun (search) .begun .given .1)
 
 expansions-requires : tie.Need-expansions-requires
-expansions-requires c κs = started _ _ (here (begun (search) .begin .ensures) _ refl) (place tie.After-begun2 (search) .begun2 .given .1)
+expansions-requires c κs = started _ _ _ (here (begun (search) .begin .ensures) _ refl) (place tie.After-begun2 (search) .begun2 .given .1)
 
 returns-2 : tie.Need-returns-2
 returns-2 c k =
-    run-ends _ _ (here (begun (ready (search)) .begin .ensures) _ refl) (ready (search) .begun2 .given .1) (place tie.After-expansions (search) .expansions .ensures k)
+    run-ends _ _ _ (here (begun (ready (search)) .begin .ensures) _ refl) (ready (search) .begun2 .given .1) (place tie.After-expansions (search) .expansions .ensures k)
 
 pub run-spec : {M : Type 1} → statement M
 run-spec = tie.close (tie.spec (λ c κs. tt) (λ c. search needs) (λ c. search needs) expansions-requires
@@ -33,4 +33,5 @@ run-spec = tie.close (tie.spec (λ c κs. tt) (λ c. search needs) (λ c. search
     (λ c. place tie.After-expansions (search) .expansions .kept .1 .1 .1 .0 ∙ begun (ready (search)) .begin .kept .1 .1 .1 .0)
     (λ c. search)
     (λ c. place tie.After-expansions (search) .expansions .kept .1 .1 .1 .1 .1 .0 ∙ begun (ready (search)) .begin .kept .1 .1 .1 .1 .0)
-    (λ c. place tie.After-expansions (search) .expansions .kept .1 .1 .1 .1 .1 .1 .0 ∙ begun (ready (search)) .begin .kept .1 .1 .1 .1 .1 .0) returns-2)
+    (λ c. place tie.After-expansions (search) .expansions .kept .1 .1 .1 .1 .1 .1 .0 ∙ begun (ready (search)) .begin .kept .1 .1 .1 .1 .1 .0)
+    (λ c. search) returns-2)

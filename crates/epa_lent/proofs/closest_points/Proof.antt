@@ -44,9 +44,10 @@ use Rattle.epa_polytope.specs.Stores.{Lists}
 use Rattle.epa.specs.declared.types.Answer.{Answer}
 use Rattle.epa.proofs.types.Answer as E
 use Rattle.epa.proofs.types.Answer.Laws as E′
+use Rattle.epa_polytope.specs.declared.types.Walk.the-variants.{Plain as plain}
 use Rattle.epa.specs.Final.{Final, final, penetration}
 use Rattle.epa_lent.proofs.Lent.{on-records}
-use Rattle.epa_lent.proofs.Slices.{Slices, slice, Seven, SevenVals, slices, slices-vals, with-row, with-row-vals, all-κs, all-qs, κs, qs, spell-slices, tell-slices, slices-at, Told, last, lists, lists-now}
+use Rattle.epa_lent.proofs.Slices.{Slices, slice, Eight, EightVals, slices, slices-vals, with-row, with-row-vals, all-κs, all-qs, κs, qs, spell-slices, tell-slices, slices-at, Told, last, lists, lists-now}
 use Rattle.epa_lent.proofs.Slices.{all-tokens, tokens, all-owned, row-owned, the-store, store-left, lent-on, told, all-told, entered-slices, passes-slices, left-slices}
 use Rattle.edges.specs.declared.Edge.{Edge}
 use Rattle.edges.specs.declared.Row.{Row}
@@ -96,10 +97,10 @@ ran x = LL.val C.the-type C′.the-laws x
 
 -- four values, and the slices
 abbrev Arg : Type 0 → Type 0
-Arg X = Pose × (Shape × (Shape × (VoronoiSimplex × Seven X)))
+Arg X = Pose × (Shape × (Shape × (VoronoiSimplex × Eight X)))
 
 abbrev Vals : Type 0
-Vals = List Val × (List Val × (List Val × (List Val × SevenVals)))
+Vals = List Val × (List Val × (List Val × (List Val × EightVals)))
 
 module _ {M : Type 1} (𝓤 : URA M) (H : Heap 𝓤) (A : Atoms 𝓤) (at-mem : Memory → SProp 𝓤) (run : Routine → Fun 𝓤) where
   -- the contract of the run on a row
@@ -116,12 +117,12 @@ module _ {M : Type 1} (𝓤 : URA M) (H : Heap 𝓤) (A : Atoms 𝓤) (W : Given
   row = rowOf ys
 
   abbrev run-on : Lists → Final Answer
-  run-on = penetration binary32 pos12 g1 g2 simplex
+  run-on = penetration plain binary32 pos12 g1 g2 simplex
 
   abbrev a : Arg (RefT (List Edge))
   a = (pos12, (g1, (g2, (simplex, slices s))))
 
-  abbrev vals : SevenVals → Vals
+  abbrev vals : EightVals → Vals
   vals ws = (pose pos12 ∷ [], (shape g1 ∷ [], (shape g2 ∷ [], (corners simplex ∷ [], ws))))
 
   abbrev y : walkOf 𝓤 H A lent.ended stayed (lent.clauses 𝓤 H A at-mem run) .Ghost
@@ -186,7 +187,7 @@ module _ {M : Type 1} (𝓤 : URA M) (H : Heap 𝓤) (A : Atoms 𝓤) (W : Given
   -- ---- the MIR
   module _ (𝓣 : Tables 𝓤 H) (reading : Triple 𝓤 (𝓣 .C #edges·row-of) (Reads 𝓤 H A at-mem run)) (running : Triple 𝓤 (𝓣 .C #run-row) (Core 𝓤 H A at-mem run)) (writing : Triple 𝓤 (𝓣 .C #edges·publish) (Writes 𝓤 H A at-mem run)) where
     abbrev args : List Val
-    args = pose pos12 ∷ shape g1 ∷ shape g2 ∷ corners simplex ∷ slice (s .vertices) ∷ slice (s .ids) ∷ slice (s .floats) ∷ slice (s .deleted) ∷ slice (s .edges) ∷ slice (s .heapIds) ∷ slice (s .heapKeys) ∷ []
+    args = pose pos12 ∷ shape g1 ∷ shape g2 ∷ corners simplex ∷ slice (s .vertices) ∷ slice (s .ids) ∷ slice (s .floats) ∷ slice (s .deleted) ∷ slice (s .edges) ∷ slice (s .heapIds) ∷ slice (s .heapKeys) ∷ slice (s .pending) ∷ []
 
     -- what the parameters own
     abbrev own-all : List (Item 𝓤)
@@ -198,14 +199,14 @@ module _ {M : Type 1} (𝓤 : URA M) (H : Heap 𝓤) (A : Atoms 𝓤) (W : Given
         qed W (raw (⋆ 𝓤 H A (all-tokens 𝓤 H A W at-mem run s)) ∷ raw (⋆ 𝓤 H A own-all) ∷ []) ∵ move ! (1 ∷ []) $ opens-as ! own-all (id⊢ 𝓤 _) $ keep ! (5 ∷ 4 ∷ []) $ group ! 2 $
         use1 W (the-store 𝓤 H A W at-mem run s ⊛ lent-on 𝓤 H A W at-mem run s) (entered-slices 𝓤 H A W at-mem run s) $ split ! $
         enter ! (𝓣 .C) (𝓣 .Λ) code.function args _ $
-        alloc1 ! (λ _. alloc1 ! (λ _. alloc1 ! (λ _. alloc1 ! (λ _. alloc1 ! (λ _. alloc1 ! (λ _. alloc1 ! (λ _. alloc1 ! (λ _. alloc1 ! (λ _. alloc1 ! (λ _. alloc1 ! (λ _. alloc1 ! (λ _. alloc1 ! (λ _. alloc1 ! (λ _. alloc1 ! (λ _. alloc1 ! (λ _. alloc1 ! (λ _. alloc1 ! (λ _. alloc1 ! (λ _. alloc1 ! (λ _. alloc1 ! (λ _. alloc1 ! (λ _. alloc1 ! (λ _. alloc1 ! (λ _. alloc1 ! (λ _. alloc1 ! (λ _. alloc1 ! (λ _. alloc1 ! (λ _. alloc1 ! (λ _. alloc1 ! (λ _. alloc1 ! (λ _. alloc0 ! $ params1 ! $ move ! (ordered 31) $
+        alloc1 ! (λ _. alloc1 ! (λ _. alloc1 ! (λ _. alloc1 ! (λ _. alloc1 ! (λ _. alloc1 ! (λ _. alloc1 ! (λ _. alloc1 ! (λ _. alloc1 ! (λ _. alloc1 ! (λ _. alloc1 ! (λ _. alloc1 ! (λ _. alloc1 ! (λ _. alloc1 ! (λ _. alloc1 ! (λ _. alloc1 ! (λ _. alloc1 ! (λ _. alloc1 ! (λ _. alloc1 ! (λ _. alloc1 ! (λ _. alloc1 ! (λ _. alloc1 ! (λ _. alloc1 ! (λ _. alloc1 ! (λ _. alloc1 ! (λ _. alloc1 ! (λ _. alloc1 ! (λ _. alloc1 ! (λ _. alloc1 ! (λ _. alloc1 ! (λ _. alloc1 ! (λ _. alloc1 ! (λ _. alloc1 ! (λ _. alloc1 ! (λ _. alloc0 ! $ params1 ! $ move ! (ordered 34) $
         pass1 ! (init ! 2 refl (LL.lawful P.the-type P′.the-laws 𝓤 H A W .typed pos12 _ pos12-is .0)) $ pass1 ! (init ! 4 refl (EL.lawful G.the-type G′.the-laws 𝓤 H A W tt .typed g1 _ g1-is .0)) $
         pass1 ! (init ! 6 refl (EL.lawful G.the-type G′.the-laws 𝓤 H A W tt .typed g2 _ g2-is .0)) $ pass1 ! (init ! 8 refl (LL.lawful S.the-type S′.the-laws 𝓤 H A W .typed simplex _ simplex-is .0)) $
         pass1 ! (init ! 10 refl (a-slice (s .room₀ .0))) $ pass1 ! (init ! 12 refl (a-slice (s .room₁ .0))) $ pass1 ! (init ! 14 refl (a-slice (s .room₂ .0))) $ pass1 ! (init ! 16 refl (a-slice (s .room₃ .0))) $
-        pass1 ! (init ! 18 refl (a-slice (s .room₄ .0))) $ pass1 ! (init ! 20 refl (a-slice (s .room₅ .0))) $ pass1 ! (init ! 22 refl (a-slice (s .room₆ .0))) $ pass0 ! $
+        pass1 ! (init ! 18 refl (a-slice (s .room₄ .0))) $ pass1 ! (init ! 20 refl (a-slice (s .room₅ .0))) $ pass1 ! (init ! 22 refl (a-slice (s .room₆ .0))) $ pass1 ! (init ! 24 refl (a-slice (s .room₇ .0))) $ pass0 ! $
         -- row_of(edges)
         lets ! (addr ! (behind-field ! refl refl refl refl)) refl (tt, tt) $ lets ! (agg ! (and-then ! (var ! refl) (and-then ! (field-of ! refl refl refl) (no-more !)))) refl (a-slice (s .room₄ .0)) $
-        calls-row-of 𝓤 H A W at-mem run (s .edges .ptr .0) (s .edges .ptr .1) ys (named 4) (s .κ₄) (s .q₄) (s .edges .name) ! (fmOf 𝓤 H (W .laws) 𝓣) reading 62 tt refl (s .room₄) (λ j. and-then ! (var ! refl) (no-more !)) (λ row-is.
+        calls-row-of 𝓤 H A W at-mem run (s .edges .ptr .0) (s .edges .ptr .1) ys (named 4) (s .κ₄) (s .q₄) (s .edges .name) ! (fmOf 𝓤 H (W .laws) 𝓣) reading 68 tt refl (s .room₄) (λ j. and-then ! (var ! refl) (no-more !)) (λ row-is.
         keeps ! refl (row-typed 𝓤 H A W row row-is) $
         -- run_row(..)
         lets ! (addr ! (behind-field ! refl refl refl refl)) refl (tt, tt) $ lets ! (agg ! (and-then ! (var ! refl) (and-then ! (field-of ! refl refl refl) (no-more !)))) refl (a-slice (s .room₀ .0)) $
@@ -214,14 +215,15 @@ module _ {M : Type 1} (𝓤 : URA M) (H : Heap 𝓤) (A : Atoms 𝓤) (W : Given
         lets ! (addr ! (behind-field ! refl refl refl refl)) refl (tt, tt) $ lets ! (agg ! (and-then ! (var ! refl) (and-then ! (field-of ! refl refl refl) (no-more !)))) refl (a-slice (s .room₃ .0)) $
         lets ! (addr ! (behind-field ! refl refl refl refl)) refl (tt, tt) $ lets ! (agg ! (and-then ! (var ! refl) (and-then ! (field-of ! refl refl refl) (no-more !)))) refl (a-slice (s .room₅ .0)) $
         lets ! (addr ! (behind-field ! refl refl refl refl)) refl (tt, tt) $ lets ! (agg ! (and-then ! (var ! refl) (and-then ! (field-of ! refl refl refl) (no-more !)))) refl (a-slice (s .room₆ .0)) $
-        calls-known ! (fmOf 𝓤 H (W .laws) 𝓣) (Core 𝓤 H A at-mem run) running to-core 63 (goes-core row-is) (λ (p : Ran × Told). ran (p .0)) (λ p. Ends (p .0) (p .1)) back gives-core
-        (and-then ! (var ! refl) (and-then ! (var ! refl) (and-then ! (var ! refl) (and-then ! (var ! refl) (and-then ! (var ! refl) (and-then ! (var ! refl) (and-then ! (var ! refl) (and-then ! (var ! refl) (and-then ! (var ! refl) (and-then ! (var ! refl) (and-then ! (var ! refl) (no-more !)))))))))))) (λ p e.
+        lets ! (addr ! (behind-field ! refl refl refl refl)) refl (tt, tt) $ lets ! (agg ! (and-then ! (var ! refl) (and-then ! (field-of ! refl refl refl) (no-more !)))) refl (a-slice (s .room₇ .0)) $
+        calls-known ! (fmOf 𝓤 H (W .laws) 𝓣) (Core 𝓤 H A at-mem run) running to-core 69 (goes-core row-is) (λ (p : Ran × Told). ran (p .0)) (λ p. Ends (p .0) (p .1)) back gives-core
+        (and-then ! (var ! refl) (and-then ! (var ! refl) (and-then ! (var ! refl) (and-then ! (var ! refl) (and-then ! (var ! refl) (and-then ! (var ! refl) (and-then ! (var ! refl) (and-then ! (var ! refl) (and-then ! (var ! refl) (and-then ! (var ! refl) (and-then ! (var ! refl) (and-then ! (var ! refl) (no-more !))))))))))))) (λ p e.
         keeps ! refl (e .typed) $
         -- publish(edges, ran.row)
         lets ! (addr ! (behind-field ! refl refl refl refl)) refl (tt, tt) $ lets ! (agg ! (and-then ! (var ! refl) (and-then ! (field-of ! refl refl refl) (no-more !)))) refl (a-slice (s .room₄ .0)) $
-        calls-publish 𝓤 H A W at-mem run (s .edges .ptr .0) (s .edges .ptr .1) ys (named 4) (s .κ₄) (s .q₄) (s .edges .name) ! (fmOf 𝓤 H (W .laws) 𝓣) writing 62 refl (p .0 .row) (e .row-is) (and-then ! (var ! refl) (and-then ! (field-of ! refl refl refl) (no-more !))) $
+        calls-publish 𝓤 H A W at-mem run (s .edges .ptr .0) (s .edges .ptr .1) ys (named 4) (s .κ₄) (s .q₄) (s .edges .name) ! (fmOf 𝓤 H (W .laws) 𝓣) writing 68 refl (p .0 .row) (e .row-is) (and-then ! (var ! refl) (and-then ! (field-of ! refl refl refl) (no-more !))) $
         keeps ! refl (tt, tt) $ lets ! (of-opd ! (field-of ! refl refl refl)) refl (LL.lawful E.the-type E′.the-laws 𝓤 H A W .typed (p .0 .answer) _ (e .answer-is) .0) $
-        returns ! (look ! 0 refl) $ frees-held ! _ _ $ by ! (exits (p .0) (p .1) e))))))))))))))))))))))))))))))))))
+        returns ! (look ! 0 refl) $ frees-held ! _ _ $ by ! (exits (p .0) (p .1) e)))))))))))))))))))))))))))))))))))))
 
 module _ {M : Type 1} (𝓤 : URA M) (H : Heap 𝓤) (A : Atoms 𝓤) (W : Given 𝓤 H A) (at-mem : Memory → SProp 𝓤) (run : Routine → Fun 𝓤) (𝓣 : Tables 𝓤 H)
     (reading : Triple 𝓤 (𝓣 .C #edges·row-of) (Reads 𝓤 H A at-mem run)) (running : Triple 𝓤 (𝓣 .C #run-row) (Core 𝓤 H A at-mem run)) (writing : Triple 𝓤 (𝓣 .C #edges·publish) (Writes 𝓤 H A at-mem run)) where

@@ -12,15 +12,15 @@ mul-pairs c = search needs
 there : tie.Need-array-borrow-prefix-pairs
 there c = let start = place tie.Start (search) in pairs-there (start .args .row) (start .pre)
 
-lent : tie.Need-slice-aggregate-closest-points
+lent : tie.Need-slice-aggregate-closest-points-plain
 lent c = let start = place tie.Start (search) in pairs-lent (start .args .row) (start .pre)
 
 returns : tie.Need-returns
 returns c = (
-  row-back (place tie.Start (search) .args .row) _ _ (place tie.Start (search) .pre) (place tie.After-closest-points (search) .closest-points .kept .1 .1 .1 .1 .1 .1 .1 .1 .0)
-      (place tie.After-closest-points (search) .closest-points .ensures),
+  row-back (place tie.Start (search) .args .row) _ _ (place tie.Start (search) .pre) (place tie.After-closest-points-plain (search) .closest-points-plain .kept .1 .1 .1 .1 .1 .1 .1 .1 .0)
+      (place tie.After-closest-points-plain (search) .closest-points-plain .ensures),
   refl,
 )
 
 pub run-row-spec : {M : Type 1} → statement M
-run-row-spec = tie.close (tie.spec mul-pairs there lent (λ c κs. tt) (λ c. search needs) (λ c. search needs) (λ c. search needs) (λ c. search needs) (λ c. search needs) (λ c. search needs) returns)
+run-row-spec = tie.close (tie.spec mul-pairs there lent (λ c κs. tt) (λ c. search needs) (λ c. search needs) (λ c. search needs) (λ c. search needs) (λ c. search needs) (λ c. search needs) (λ c. search needs) returns)

@@ -44,7 +44,7 @@ goes-on c κs = sym (place Asked (search) .rests .ensures) ∙ place (tie.Else1 
 
 -- whatever the lists hold that are not lent
 nothing-else : Lists
-nothing-else = record { vertices = []; faceIds = []; faceFloats = []; deleted = []; edges = []; heapIds = []; heapKeys = [] }
+nothing-else = record { vertices = []; faceIds = []; faceFloats = []; deleted = []; edges = []; heapIds = []; heapKeys = []; pending = [] }
 
 loop-less : tie.Need-loop-less Inv-loop μ-loop
 loop-less c =

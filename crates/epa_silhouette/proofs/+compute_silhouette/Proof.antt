@@ -48,7 +48,7 @@ callees t = (
 
 -- whatever the lists hold that are not lent
 nothing-else : Lists
-nothing-else = record { vertices = []; faceIds = []; faceFloats = []; deleted = []; edges = []; heapIds = []; heapKeys = [] }
+nothing-else = record { vertices = []; faceIds = []; faceFloats = []; deleted = []; edges = []; heapIds = []; heapKeys = []; pending = [] }
 
 module _ (t : ℕ) where
   -- the face was live, and fewer are where it is deleted

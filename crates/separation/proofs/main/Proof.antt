@@ -7,7 +7,7 @@ use Rattle.separation.proofs.main.Statement.{statement}
 use Rattle.separation.proofs.main.Tie as tie
 
 abbrev Inv-loop : tie.InvT-loop
-Inv-loop input₀ out₀ vertices₀ ids₀ floats₀ deleted₀ edges₀ heap-ids₀ heap-keys₀ state₀ n₀ input out vertices ids floats deleted edges heap-ids heap-keys state n = record {
+Inv-loop input₀ out₀ vertices₀ ids₀ floats₀ deleted₀ edges₀ heap-ids₀ heap-keys₀ pending₀ state₀ n₀ input out vertices ids floats deleted edges heap-ids heap-keys pending state n = record {
   few : n ≤ 4294967296;
   input : length input ≡ 65536;
   out : length out ≡ 65536;
@@ -18,10 +18,11 @@ Inv-loop input₀ out₀ vertices₀ ids₀ floats₀ deleted₀ edges₀ heap-i
   edges : length edges ≡ 412;
   heap-ids : length heap-ids ≡ 1000;
   heap-keys : length heap-keys ≡ 1000;
+  pending : length pending ≡ 412;
 }
 
 abbrev μ-loop : tie.MeasureT-loop
-μ-loop input₀ out₀ vertices₀ ids₀ floats₀ deleted₀ edges₀ heap-ids₀ heap-keys₀ state₀ n₀ input out vertices ids floats deleted edges heap-ids heap-keys state n = 4294967296 - n
+μ-loop input₀ out₀ vertices₀ ids₀ floats₀ deleted₀ edges₀ heap-ids₀ heap-keys₀ pending₀ state₀ n₀ input out vertices ids floats deleted edges heap-ids heap-keys pending state n = 4294967296 - n
 
 large-buffer-requires : tie.Need-large-buffer-requires Inv-loop μ-loop
 large-buffer-requires c κs = search needs
@@ -47,6 +48,6 @@ finish-requires-2 c κs = search needs
 pub main-spec : {M : Type 1} → statement M
 main-spec = tie.close (tie.spec Inv-loop μ-loop large-buffer-requires large-buffer-requires-2 (λ c. search needs) begun-requires
     (λ c. search needs) (λ c. search needs) (λ c. search needs) (λ c. search needs) (λ c. search needs) (λ c. search needs) (λ c. search needs) (λ c. search needs) (λ c. search needs)
-    (λ c. search needs) (λ c. search needs)
+    (λ c. search needs) (λ c. search needs) (λ c. search needs)
     turn-requires is-open-requires (λ c. search needs) finish-requires (λ c. search needs) (λ c. search needs) (λ c. search needs) (λ c. search needs) (λ c. search needs) finish-requires-2
     (λ c. search needs))

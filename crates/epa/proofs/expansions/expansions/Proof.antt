@@ -4,7 +4,7 @@ use borrow.Author.Needs.{needs}
 use mathlib.Core.Path.{_≡_, refl, _∙_}
 use mathlib.Core.List.{[]}
 use lib.ListN.{length}
-use Rattle.epa_polytope.specs.Contracts.{single, singleWorld}
+use Rattle.epa_polytope.specs.Contracts.{single, singleBy}
 use Rattle.epa_polytope.specs.Steps.{answerOf}
 use Rattle.epa_polytope.specs.declared.types.Found.the-variants.{EnoughExpansions}
 use Rattle.epa_polytope.proofs.Doing.{read-here, place}
@@ -14,8 +14,8 @@ use Rattle.epa.proofs.expansions.expansions.Statement.{statement}
 use Rattle.epa.proofs.expansions.expansions.Tie as tie
 
 abbrev Inv-loop : tie.InvT-loop
-Inv-loop vertices₀ ids₀ floats₀ deleted₀ edges₀ heap-ids₀ heap-keys₀ pos12 g1 g2 tol tally₀ best₀ left₀ vertices ids floats deleted edges heap-ids heap-keys tally best left = record {
-  loop : ExpandLoop (singleWorld pos12 g1 g2) tol (listsOf vertices₀ ids₀ floats₀ deleted₀ edges₀ heap-ids₀ heap-keys₀) tally₀ (listsOf vertices ids floats deleted edges heap-ids heap-keys) tally best left;
+Inv-loop vertices₀ ids₀ floats₀ deleted₀ edges₀ heap-ids₀ heap-keys₀ pending₀ walk pos12 g1 g2 tol tally₀ best₀ left₀ vertices ids floats deleted edges heap-ids heap-keys pending tally best left = record {
+  loop : ExpandLoop (singleBy walk pos12 g1 g2) tol (listsOf vertices₀ ids₀ floats₀ deleted₀ edges₀ heap-ids₀ heap-keys₀ pending₀) tally₀ (listsOf vertices ids floats deleted edges heap-ids heap-keys pending) tally best left;
   vertices : length vertices ≡ length vertices₀;
   ids : length ids ≡ length ids₀;
   floats : length floats ≡ length floats₀;
@@ -23,10 +23,11 @@ Inv-loop vertices₀ ids₀ floats₀ deleted₀ edges₀ heap-ids₀ heap-keys�
   edges : length edges ≡ length edges₀;
   heap-ids : length heap-ids ≡ length heap-ids₀;
   heap-keys : length heap-keys ≡ length heap-keys₀;
+  pending : length pending ≡ length pending₀;
 }
 
 abbrev μ-loop : tie.MeasureT-loop
-μ-loop vertices₀ ids₀ floats₀ deleted₀ edges₀ heap-ids₀ heap-keys₀ pos12 g1 g2 tol tally₀ best₀ left₀ vertices ids floats deleted edges heap-ids heap-keys tally best left = left
+μ-loop vertices₀ ids₀ floats₀ deleted₀ edges₀ heap-ids₀ heap-keys₀ pending₀ walk pos12 g1 g2 tol tally₀ best₀ left₀ vertices ids floats deleted edges heap-ids heap-keys pending tally best left = left
 
 abbrev Begins : Type 0
 Begins = tie.Start Inv-loop μ-loop
@@ -57,6 +58,7 @@ loop-holds c = record {
   edges = refl;
   heap-ids = refl;
   heap-keys = refl;
+  pending = refl;
 }
 
 iterate-requires : tie.Need-iterate-requires Inv-loop μ-loop
@@ -74,7 +76,7 @@ loop-less c = omega (arith, more (search) .loop-test .taken)
 
 loop-again : tie.Need-loop-again Inv-loop μ-loop
 loop-again c = record {
-  loop = loop-turns (began (search) .loop .inv .loop) (more (search) .loop-test .taken) (place Iterated (search) .iterate .ensures (listsOf [] [] [] [] [] [] [])) (c .before .visited2 .given .1);
+  loop = loop-turns (began (search) .loop .inv .loop) (more (search) .loop-test .taken) (place Iterated (search) .iterate .ensures (listsOf [] [] [] [] [] [] [] [])) (c .before .visited2 .given .1);
   vertices = place Iterated (search) .iterate .kept .0 ∙ began (search) .loop .inv .vertices;
   ids = place Iterated (search) .iterate .kept .1 .0 ∙ began (search) .loop .inv .ids;
   floats = place Iterated (search) .iterate .kept .1 .1 .0 ∙ began (search) .loop .inv .floats;
@@ -82,6 +84,7 @@ loop-again c = record {
   edges = place Iterated (search) .iterate .kept .1 .1 .1 .1 .0 ∙ began (search) .loop .inv .edges;
   heap-ids = place Iterated (search) .iterate .kept .1 .1 .1 .1 .1 .0 ∙ began (search) .loop .inv .heap-ids;
   heap-keys = place Iterated (search) .iterate .kept .1 .1 .1 .1 .1 .1 .0 ∙ began (search) .loop .inv .heap-keys;
+  pending = place Iterated (search) .iterate .kept .1 .1 .1 .1 .1 .1 .1 .0 ∙ began (search) .loop .inv .pending;
 }
 
 returns-2 : tie.Need-returns-2 Inv-loop μ-loop
@@ -97,7 +100,8 @@ expansions-spec = tie.close (tie.spec Inv-loop μ-loop (λ c κs. tt) loop-holds
     (λ c. place Iterated (search) .iterate .kept .1 .1 .1 .0 ∙ began (search) .loop .inv .deleted)
     (λ c. place Iterated (search) .iterate .kept .1 .1 .1 .1 .0 ∙ began (search) .loop .inv .edges)
     (λ c. place Iterated (search) .iterate .kept .1 .1 .1 .1 .1 .0 ∙ began (search) .loop .inv .heap-ids)
-    (λ c. place Iterated (search) .iterate .kept .1 .1 .1 .1 .1 .1 .0 ∙ began (search) .loop .inv .heap-keys) returns
+    (λ c. place Iterated (search) .iterate .kept .1 .1 .1 .1 .1 .1 .0 ∙ began (search) .loop .inv .heap-keys)
+    (λ c. place Iterated (search) .iterate .kept .1 .1 .1 .1 .1 .1 .1 .0 ∙ began (search) .loop .inv .pending) returns
     (λ c. search needs) sub-left loop-less loop-again (λ c κs. tt)
     (λ c. place At (search) .loop .inv .vertices) (λ c. place At (search) .loop .inv .ids) (λ c. place At (search) .loop .inv .floats) (λ c. place At (search) .loop .inv .deleted)
-    (λ c. place At (search) .loop .inv .edges) (λ c. place At (search) .loop .inv .heap-ids) (λ c. place At (search) .loop .inv .heap-keys) returns-2)
+    (λ c. place At (search) .loop .inv .edges) (λ c. place At (search) .loop .inv .heap-ids) (λ c. place At (search) .loop .inv .heap-keys) (λ c. place At (search) .loop .inv .pending) returns-2)

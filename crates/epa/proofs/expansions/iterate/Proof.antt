@@ -3,7 +3,7 @@ use borrow.Author.Needs.{needs}
 use mathlib.Core.Path.{refl, _∙_}
 use mathlib.Core.List.{[]}
 use Rattle.epa_polytope.specs.Stores.{Lists}
-use Rattle.epa_polytope.specs.Contracts.{single, singleWorld}
+use Rattle.epa_polytope.specs.Contracts.{single, singleBy}
 use Rattle.epa_polytope.specs.Steps.{answerOf}
 use Rattle.epa_polytope.specs.declared.types.Found.the-variants.{HeapEmpty}
 use Rattle.epa_polytope.proofs.Doing.{here, read-here, place}
@@ -29,11 +29,11 @@ start c = search
 visited : (c : tie.After-visit) → Lists → Early (c .visit .result)
 visited c k =
     let a = start (popped c) .args in
-    visited-early (singleWorld (a .pos12) (a .g1) (a .g2)) (a .tol) (a .best) (here (popped c .pop-live .ensures) _ refl) (start (popped c) .pre .early)
+    visited-early (singleBy (a .walk) (a .pos12) (a .g1) (a .g2)) (a .tol) (a .best) (here (popped c .pop-live .ensures) _ refl) (start (popped c) .pre .early)
     (place tie.After-entry (search) .entry .given .1) (c .visit .ensures k)
 
 completed-requires : tie.Need-completed-requires
-completed-requires c κs = visited (search) (listsOf [] [] [] [] [] [] [])
+completed-requires c κs = visited (search) (listsOf [] [] [] [] [] [] [] [])
 
 returns-2 : tie.Need-returns-2
 returns-2 c k =
@@ -45,4 +45,4 @@ iterate-spec = tie.close (tie.spec (λ c κs. place tie.Start (search) .pre .wit
     (λ c κs. tt) completed-requires
     (λ c. search) (λ c. search) (λ c. search) (λ c. search) (λ c. search)
     (λ c. place tie.After-visit (search) .visit .kept .1 .1 .1 .1 .1 .0 ∙ place tie.After-pop-live (search) .pop-live .kept .1 .0)
-    (λ c. place tie.After-visit (search) .visit .kept .1 .1 .1 .1 .1 .1 .0 ∙ place tie.After-pop-live (search) .pop-live .kept .1 .1 .0) returns-2)
+    (λ c. place tie.After-visit (search) .visit .kept .1 .1 .1 .1 .1 .1 .0 ∙ place tie.After-pop-live (search) .pop-live .kept .1 .1 .0) (λ c. search) returns-2)

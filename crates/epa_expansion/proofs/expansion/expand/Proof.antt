@@ -13,16 +13,16 @@ gone c = place tie.After-set-deleted (search)
 
 returns : tie.Need-returns
 returns c k =
-    expand-ended single _ _ _ (gone (search) .set-deleted .ensures) (here (place tie.After-silhouette (search) .silhouette .ensures) _ refl) (c .enum-told .given .1)
+    expand-ended _ single _ _ _ (gone (search) .set-deleted .ensures) (here (place tie.After-silhouette (search) .silhouette .ensures) _ refl) (c .enum-told .given .1)
 
 returns-2 : tie.Need-returns-2
 returns-2 c k =
-    expanded single _ _ _ (gone (search) .set-deleted .ensures) (here (place tie.After-silhouette (search) .silhouette .ensures) _ refl) (place tie.After-lined (search) .lined .given .1)
-    (place tie.After-regrow (search) .regrow .ensures k)
+    expanded _ single _ _ _ (gone (search) .set-deleted .ensures) (here (place tie.After-silhouette (search) .silhouette .ensures) _ refl) (place tie.After-lined (search) .lined .given .1)
+    (here (place tie.After-regrow (search) .regrow .ensures) _ refl)
 
 pub expand-spec : {M : Type 1} → statement M
 expand-spec = tie.close (tie.spec (λ c κs. tt) (λ c κs. tt) (λ c. search needs) (λ c. search needs) (λ c κs. tt)
-    (λ c. refl) (λ c. refl) (λ c. place tie.After-silhouette (search) .silhouette .kept .1 .1 .1 .0 ∙ gone (search) .set-deleted .kept .0) (λ c. search) returns
+    (λ c. refl) (λ c. refl) (λ c. place tie.After-silhouette (search) .silhouette .kept .1 .1 .1 .0 ∙ gone (search) .set-deleted .kept .0) (λ c. search) (λ c. search) returns
     (λ c. search) (λ c. search)
     (λ c. place tie.After-regrow (search) .regrow .kept .1 .1 .1 .0 ∙ place tie.After-silhouette (search) .silhouette .kept .1 .1 .1 .0 ∙ gone (search) .set-deleted .kept .0)
-    (λ c. place tie.After-regrow (search) .regrow .kept .1 .1 .1 .1 .0 ∙ place tie.After-silhouette (search) .silhouette .kept .1 .1 .1 .1 .0) (λ c. search) (λ c. search) returns-2)
+    (λ c. place tie.After-regrow (search) .regrow .kept .1 .1 .1 .1 .0 ∙ place tie.After-silhouette (search) .silhouette .kept .1 .1 .1 .1 .0) (λ c. search) (λ c. search) (λ c. search) returns-2)

@@ -39,5 +39,5 @@ returns-4 c supp k =
 pub settle-spec : {M : Type 1} → statement M
 settle-spec = tie.close (tie.spec (λ c κs. tt) (λ c κs. tt) (λ c κs. tt) (λ c. refl) (λ c. refl) returns (λ c κs. tt) (λ c κs. tt) (λ c. refl) (λ c. refl) returns-2
     (λ c κs. tt) (λ c. search needs) (λ c. search needs)
-    (λ c. search) (λ c. search) (λ c. search) (λ c. search) (λ c. search) (λ c. search) returns-3
-    (λ c. search) (λ c. search) (λ c. search) (λ c. search) (λ c. search) (λ c. search) returns-4)
+    (λ c. search) (λ c. search) (λ c. search) (λ c. search) (λ c. search) (λ c. search) (λ c. search) returns-3
+    (λ c. search) (λ c. search) (λ c. search) (λ c. search) (λ c. search) (λ c. search) (λ c. search) returns-4)

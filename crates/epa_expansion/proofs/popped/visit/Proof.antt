@@ -19,4 +19,4 @@ returns-2 c k =
 
 pub visit-spec : {M : Type 1} → statement M
 visit-spec = tie.close (tie.spec (λ c κs. tt) (λ c κs. tt) (λ c κs. tt) (λ c. search needs) (λ c. search needs) (λ c κs. tt) (λ c κs. tt) (λ c. search) (λ c. refl) returns
-    (λ c. search) (λ c. search) (λ c. search) (λ c. search) (λ c. search) (λ c. search) (λ c. search) returns-2)
+    (λ c. search) (λ c. search) (λ c. search) (λ c. search) (λ c. search) (λ c. search) (λ c. search) (λ c. search) returns-2)

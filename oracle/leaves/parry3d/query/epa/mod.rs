@@ -1,15 +1,17 @@
-//! epa3.rs as published and its edited copies, one for each order of equal keys, behind traits.
+//! epa3.rs as published and its edited copies, one for each order of equal keys and one with the plain walk, behind traits.
 
 use crate::math::{Pose, Real, Vector};
 use crate::query::gjk::{CsoPoint, VoronoiSimplex};
 use crate::shape::SupportMap;
 
-/// Equal keys pop as the toolchain's heap has them: the oracle proper.
+/// Equal keys pop as the toolchain's heap has them, and the silhouette is walked as published.
 pub mod epa3;
 /// Equal keys pop in the order of arrival.
 pub mod epa3_first;
 /// Equal keys pop in the reverse order of arrival.
 pub mod epa3_last;
+/// As `epa3`, but the silhouette is walked by a loop over pending questions.
+pub mod epa3_plain;
 /// The published text, not edited: what the edited copies are compared with.
 pub mod epa3_published;
 
@@ -20,6 +22,18 @@ pub struct Rooms {
     pub edges: usize,
     pub faces: usize,
     pub heap: usize,
+    /// Of the plain walk alone.
+    pub pending: usize,
+}
+
+impl Rooms {
+    pub const NO_LIMIT: Rooms = Rooms {
+        vertices: usize::MAX,
+        edges: usize::MAX,
+        faces: usize::MAX,
+        heap: usize::MAX,
+        pending: usize::MAX,
+    };
 }
 
 /// The counts of a run, valid whatever way it ended.
@@ -59,7 +73,7 @@ pub struct FaceRecord {
     pub deleted: bool,
 }
 
-/// What the four stores hold after a run. `most_...` says how many places were ever used.
+/// What the five stores hold after a run. `most_...` says how many places were ever used.
 pub struct Contents {
     pub vertices: Vec<CsoPoint>,
     pub faces: Vec<FaceRecord>,
@@ -69,6 +83,9 @@ pub struct Contents {
     /// Face and key, in the heap's internal order.
     pub heap: Vec<(usize, Real)>,
     pub most_heap: usize,
+    /// Face and corner of each question still held: none but after a refusal of the plain walk.
+    pub pending: Vec<(usize, usize)>,
+    pub most_pending: usize,
 }
 
 /// A polytope that can be run.
@@ -93,6 +110,7 @@ pub trait Polytope: Default {
 pub trait Readable: Polytope {
     fn way_out(&self) -> WayOut;
     fn most_heap(&self) -> usize;
+    fn most_pending(&self) -> usize;
     fn contents(&self) -> Contents;
 
     /// The order in which faces 0, 1, ... pop that were queued in this order with equal keys.

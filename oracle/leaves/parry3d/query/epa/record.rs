@@ -14,6 +14,7 @@ impl Polytope for EPA {
         self.silhouette.lend(Store::Edges, rooms.edges);
         self.faces.lend(Store::Faces, rooms.faces);
         self.heap.lend(Store::Heap, rooms.heap);
+        self.pending.lend(Store::Pending, rooms.pending);
     }
 
     fn run(
@@ -46,6 +47,10 @@ impl Readable for EPA {
         self.heap.most()
     }
 
+    fn most_pending(&self) -> usize {
+        self.pending.most()
+    }
+
     fn contents(&self) -> Contents {
         Contents {
             vertices: self.vertices.to_vec(),
@@ -63,6 +68,8 @@ impl Readable for EPA {
                 .map(|entry| (entry.id, entry.neg_dist))
                 .collect(),
             most_heap: self.most_heap(),
+            pending: self.pending.to_vec(),
+            most_pending: self.most_pending(),
         }
     }
 
