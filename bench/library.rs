@@ -4,6 +4,9 @@
 //!
 //!   library FILE
 
+#[path = "../oracle/src/answer.rs"]
+#[allow(dead_code)]
+mod answer;
 #[path = "../oracle/src/casefile.rs"]
 #[allow(dead_code)]
 mod casefile;
@@ -11,10 +14,12 @@ mod casefile;
 #[allow(dead_code)]
 mod channel;
 #[path = "../oracle/src/lines.rs"]
-#[allow(dead_code)]
+#[allow(dead_code, unused_imports)]
 mod lines;
 #[cfg(port)]
 mod port;
+#[path = "../oracle/src/published.rs"]
+mod published;
 
 use casefile::{Next, Reader, Record};
 use channel::{Answer, Channel};

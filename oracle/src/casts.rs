@@ -4,12 +4,12 @@
 //! and direction, the largest time. Its line is the number of the answer (0 an impact, 6 a miss, 2 a panic), the time and the direction.
 
 use crate::casefile::{Record, Shape};
-use crate::channel::Published;
 use crate::families::{self, Family};
 use crate::lines;
+use crate::published::{self, vector, Published};
 use crate::random::Random;
 use crate::stats;
-use parry3d::math::{Pose, Rotation, Vector};
+use parry3d::math::{Pose, Vector};
 use parry3d::query::gjk::{record, VoronoiSimplex};
 use parry3d::query::ways::{self, Way};
 use parry3d::query::{gjk_ways, Ray};
@@ -198,15 +198,10 @@ fn edited(
     gjk_ways::minkowski_ray_cast(pos12, g1, g2, ray, max_time, simplex)
 }
 
-fn vector([x, y, z]: [f32; 3]) -> Vector {
-    Vector::new(x, y, z)
-}
-
 /// The answer as number and values: the line without its end.
 fn answer(cast: &Cast, ray_cast: RayCast) -> (u8, [u32; 4]) {
     let (first, second) = (Published::from(cast.first), Published::from(cast.second));
-    let [x, y, z, w] = cast.rotation;
-    let pos12 = Pose::from_parts(vector(cast.translation), Rotation::from_xyzw(x, y, z, w));
+    let pos12 = published::pose(cast.translation, cast.rotation);
     let ray = Ray::new(vector(cast.origin), vector(cast.dir));
     let (g1, g2) = (first.support_map(), second.support_map());
     // Each cast begins with a new simplex, so a panic leaves nothing behind.

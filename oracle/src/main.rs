@@ -1,5 +1,6 @@
 //! The oracle: the published Rust behind a case file. See oracle/README.md.
 
+mod answer;
 mod casefile;
 mod casts;
 mod channel;
@@ -10,6 +11,7 @@ mod generate;
 mod heap;
 mod lines;
 mod order;
+mod published;
 mod random;
 mod run;
 mod smallest;

@@ -10,10 +10,11 @@ pub trait WSign {
 }
 
 impl WSign for Real {
-    /// A NaN's sign counts as positive, since Rust does not fix it.
+    /// A NaN's sign counts as positive, since Rust does not fix it. With `nan_signs`, which
+    /// oracle/crate asks for, it is read, as it is in the crate.
     #[inline]
     fn copy_sign_to(self, to: Self) -> Self {
-        let sign = if self.is_nan() {
+        let sign = if self.is_nan() && !cfg!(feature = "nan_signs") {
             0
         } else {
             self.to_bits() & SIGN_BIT

@@ -15,6 +15,9 @@ pub mod epa3_plain;
 /// The published text, not edited: what the edited copies are compared with.
 pub mod epa3_published;
 
+/// Under the crate's own name, for oracle/crate.
+pub use self::epa3_published::EPA;
+
 /// How many entries each store is lent.
 #[derive(Copy, Clone, Debug)]
 pub struct Rooms {
