@@ -34,7 +34,7 @@ fn place_at(words: &[u8], i: usize) -> usize
 
 // ---- the list of n that has its place at word i
 
-pub fn floats_from(words: &[u8], i: usize, n: usize) -> [f32; 6_144]
+pub(crate) fn floats_from(words: &[u8], i: usize, n: usize) -> [f32; 6_144]
     requires { ⌜ n ≤ 6_144 ⌝ }
     ensures { λ r. ⌜ (n ≤ length r) × (n ≡ length (take n r)) ⌝ }
 {
@@ -48,7 +48,7 @@ pub fn floats_from(words: &[u8], i: usize, n: usize) -> [f32; 6_144]
     list
 }
 
-pub fn sizes_from(words: &[u8], i: usize, n: usize) -> [usize; 6_144]
+pub(crate) fn sizes_from(words: &[u8], i: usize, n: usize) -> [usize; 6_144]
     requires { ⌜ n ≤ 6_144 ⌝ }
     ensures { λ r. ⌜ (n ≤ length r) × (n ≡ length (take n r)) ⌝ }
 {
@@ -62,7 +62,7 @@ pub fn sizes_from(words: &[u8], i: usize, n: usize) -> [usize; 6_144]
     list
 }
 
-pub fn bytes_from(words: &[u8], i: usize, n: usize) -> [u8; 6_144]
+pub(crate) fn bytes_from(words: &[u8], i: usize, n: usize) -> [u8; 6_144]
     requires { ⌜ n ≤ 6_144 ⌝ }
     ensures { λ r. ⌜ (n ≤ length r) × (n ≡ length (take n r)) ⌝ }
 {
@@ -78,19 +78,34 @@ pub fn bytes_from(words: &[u8], i: usize, n: usize) -> [u8; 6_144]
 
 // ---- the first n
 
-pub fn put_first_floats(out: &mut [u8; 65_536], at: usize, list: [f32; 6_144], n: usize) -> usize
+pub(crate) fn put_first_floats(
+    out: &mut [u8; 65_536],
+    at: usize,
+    list: [f32; 6_144],
+    n: usize,
+) -> usize
     requires { ⌜ n ≤ 6_144 ⌝ }
 {
     put_floats(out, at, &list[..n])
 }
 
-pub fn put_first_sizes(out: &mut [u8; 65_536], at: usize, list: [usize; 6_144], n: usize) -> usize
+pub(crate) fn put_first_sizes(
+    out: &mut [u8; 65_536],
+    at: usize,
+    list: [usize; 6_144],
+    n: usize,
+) -> usize
     requires { ⌜ n ≤ 6_144 ⌝ }
 {
     put_sizes(out, at, &list[..n])
 }
 
-pub fn put_first_bytes(out: &mut [u8; 65_536], at: usize, list: [u8; 6_144], n: usize) -> usize
+pub(crate) fn put_first_bytes(
+    out: &mut [u8; 65_536],
+    at: usize,
+    list: [u8; 6_144],
+    n: usize,
+) -> usize
     requires { ⌜ n ≤ 6_144 ⌝ }
 {
     put_bytes(out, at, &list[..n])

@@ -16,7 +16,7 @@ use vector::Vec3;
 
 // ---- read
 
-pub fn vector_at(words: &[u8], i: usize) -> Vec3
+pub(crate) fn vector_at(words: &[u8], i: usize) -> Vec3
     requires { ⌜ i ≤ 65536 ⌝ }
 {
     Vec3::new(
@@ -26,7 +26,7 @@ pub fn vector_at(words: &[u8], i: usize) -> Vec3
     )
 }
 
-pub fn pose_at(words: &[u8], i: usize) -> Pose
+pub(crate) fn pose_at(words: &[u8], i: usize) -> Pose
     requires { ⌜ i ≤ 4096 ⌝ }
 {
     let rotation = Rotation {
@@ -42,7 +42,7 @@ pub fn pose_at(words: &[u8], i: usize) -> Pose
     }
 }
 
-pub fn shape_at(words: &[u8], i: usize) -> Shape
+pub(crate) fn shape_at(words: &[u8], i: usize) -> Shape
     requires { ⌜ i ≤ 4096 ⌝ }
 {
     let kind = word_at(words, i);
@@ -61,7 +61,7 @@ pub fn shape_at(words: &[u8], i: usize) -> Shape
     Shape::Triangle(a.x, a.y, a.z, b.x, b.y, b.z, c.x, c.y, c.z)
 }
 
-pub fn vertex_at(words: &[u8], i: usize) -> Vertex
+pub(crate) fn vertex_at(words: &[u8], i: usize) -> Vertex
     requires { ⌜ i ≤ 4096 ⌝ }
 {
     Vertex::new_with_point(
@@ -104,7 +104,7 @@ fn vertices_at(words: &[u8], i: usize) -> [Vertex; 4]
 }
 
 // 54 words.
-pub fn simplex_at(words: &[u8], i: usize) -> VoronoiSimplex
+pub(crate) fn simplex_at(words: &[u8], i: usize) -> VoronoiSimplex
     requires { ⌜ i ≤ 1024 ⌝ }
 {
     let prev_vertices = places_at(words, i);

@@ -12,7 +12,7 @@ fn wide(byte: u8) -> u32
 }
 
 // Past the end, 0.
-pub fn word_at(words: &[u8], i: usize) -> u32 {
+pub(crate) fn word_at(words: &[u8], i: usize) -> u32 {
     if words.len() / 4 <= i {
         return 0;
     }

@@ -3,6 +3,9 @@
 ghost use mathlib.Core.Path.{_≡_};
 ghost use lib.Ieee.{binary32};
 ghost use Rattle.epa.specs.Final.{allLent, Ends};
+ghost use Rattle.epa_polytope.specs.Contracts.{called};
+ghost use Rattle.number.specs.Told.{Told};
+ghost use Rattle.lines.specs.Lines.{outcomeNumber, outcomeValues};
 ghost use Rattle.channel.specs.Channel.{startOf, separated};
 use gjk::GJKResult;
 use lines::Outcome;
@@ -39,7 +42,8 @@ pub fn separate(
     heap_keys: &mut [f32],
     pending: &mut [usize],
 ) -> Outcome
-    ensures { λ r. ⌜ Ends (separated binary32 pos12 g1 g2 dir «max_dist» exact) r (λ m. allLent m vertices ids floats deleted edges «heap_ids» «heap_keys» pending) ⌝ }
+    ensures answer { λ r. ⌜ Ends (separated binary32 pos12 g1 g2 dir «max_dist» exact) r (λ m. allLent m vertices ids floats deleted edges «heap_ids» «heap_keys» pending) ⌝ }
+    ensures told { λ r. ⌜ Told outcomeNumber outcomeValues r (separated binary32 pos12 g1 g2 dir «max_dist» exact (allLent called vertices ids floats deleted edges «heap_ids» «heap_keys» pending) .answer) ⌝ }
 {
     let start = start_of(pos12, g1, g2, dir);
     let run = gjk::closest_points(pos12, g1, g2, max_dist, exact, start);

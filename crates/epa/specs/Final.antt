@@ -3,17 +3,19 @@ use mathlib.Core.Path.{_≡_}
 use mathlib.Core.List.{List, []}
 use Prim.Native.Nat.{ℕ}
 use lib.Ieee.{Float, Format}
+use Rattle.vector.specs.Vector.{zeroV}
+use Rattle.vector.specs.declared.vec3.Vec3.{Vec3}
 use Rattle.vector.specs.declared.pose.Pose.{Pose}
 use Rattle.shape.specs.declared.support.Shape.{Shape}
 use Rattle.shape.specs.Support.{fromShapes}
 use Rattle.simplex.specs.declared.voronoi_simplex.VoronoiSimplex.{VoronoiSimplex}
 use Rattle.epa_polytope.specs.Stores.{Lists, State, liveTo}
-use Rattle.epa_polytope.specs.Steps.{Out, onward, ended, Over}
+use Rattle.epa_polytope.specs.Steps.{Out, onward, ended, Over, refusal}
 use Rattle.epa_polytope.specs.Run.{closestPoints}
 use Rattle.epa_polytope.specs.declared.types.Walk.{Walk}
 use Rattle.epa_polytope.specs.Contracts.{Lent, Moment, called, returned, when}
 use Rattle.epa_polytope.specs.declared.types.End.{End}
-use Rattle.epa_polytope.specs.declared.types.End.the-variants.{NoRoom as noRoom}
+use Rattle.epa_polytope.specs.declared.types.End.the-variants.{Answers as answers, Nothing as nothing, Panics as panics, NoRoom as noRoom}
 use Rattle.epa_polytope.specs.declared.types.Finish.{Finish}
 use Rattle.epa_polytope.specs.declared.types.Store.{Store}
 use Rattle.epa_polytope.specs.declared.types.Tally.{Tally}
@@ -44,6 +46,28 @@ answerAt deleted x = record { end = x .end; counts = countsAt deleted (x .tally)
 
 abbrev pub finalAt : End → State → Final Answer
 finalAt e s = final (record { end = e; counts = countsAt (s .lists .deleted) (s .tally) }) (s .lists)
+
+-- document 01's number of an answer, and its values: two points and the normal, zeros where there are none, and the counts
+abbrev pub answerNumber : Answer → ℕ
+answerNumber x = refusal (x .end)
+
+pub record Values : Type 0 where
+  pub point1 : Vec3
+  pub point2 : Vec3
+  pub normal : Vec3
+  pub counts : Counts
+
+abbrev pub values : Vec3 → Vec3 → Vec3 → Counts → Values
+values p1 p2 n c = record { point1 = p1; point2 = p2; normal = n; counts = c }
+
+unfoldable pub endValues : End → Counts → Values
+endValues (answers why p1 p2 n) c = values p1 p2 n c
+endValues (nothing why) c = values zeroV zeroV zeroV c
+endValues (panics site) c = values zeroV zeroV zeroV c
+endValues (noRoom store) c = values zeroV zeroV zeroV c
+
+abbrev pub answerValues : Answer → Values
+answerValues x = endValues (x .end) (x .counts)
 
 -- a run only ends
 abbrev pub finalOf : Out Over → Final Answer

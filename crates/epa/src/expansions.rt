@@ -133,7 +133,7 @@ fn first_best(heap_ids: &[usize]) -> Best
 }
 
 // The expansions, at most 101, from the face that the heap has first: one has been queued by then.
-pub fn expansions(
+pub(crate) fn expansions(
     vertices: &mut [f32],
     ids: &mut [usize],
     floats: &mut [f32],

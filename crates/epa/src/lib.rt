@@ -3,11 +3,12 @@
 // walked without recursion, the pending questions too.
 ghost use mathlib.Core.Path.{_≡_};
 ghost use lib.Ieee.{binary32};
+ghost use Rattle.number.specs.Told.{Told};
 ghost use Rattle.epa_polytope.specs.Stores.{noneYet};
 ghost use Rattle.epa_polytope.specs.Run.{epa};
-ghost use Rattle.epa_polytope.specs.Contracts.{Gives, finishOut, lentAll, singleBy};
+ghost use Rattle.epa_polytope.specs.Contracts.{Gives, finishOut, lentAll, singleBy, called};
 ghost use Rattle.epa_polytope.specs.declared.types.Walk.the-variants.{Recursive as recursive, Plain as plain};
-ghost use Rattle.epa.specs.Final.{fourLent, allLent, Ends, penetration, answerAt, countsAt};
+ghost use Rattle.epa.specs.Final.{fourLent, allLent, Ends, penetration, answerAt, countsAt, answerNumber, answerValues};
 
 mod expansions;
 mod types;
@@ -112,7 +113,8 @@ pub fn closest_points(
     heap_ids: &mut [usize],
     heap_keys: &mut [f32],
 ) -> Answer
-    ensures { λ r. ⌜ Ends (penetration recursive binary32 pos12 g1 g2 simplex) r (λ m. fourLent m vertices ids floats deleted edges «heap_ids» «heap_keys») ⌝ }
+    ensures answer { λ r. ⌜ Ends (penetration recursive binary32 pos12 g1 g2 simplex) r (λ m. fourLent m vertices ids floats deleted edges «heap_ids» «heap_keys») ⌝ }
+    ensures told { λ r. ⌜ Told answerNumber answerValues r (penetration recursive binary32 pos12 g1 g2 simplex (fourLent called vertices ids floats deleted edges «heap_ids» «heap_keys») .answer) ⌝ }
 {
     let mut none = [0usize; 0];
     let finish = run(
@@ -148,7 +150,8 @@ pub fn closest_points_plain(
     heap_keys: &mut [f32],
     pending: &mut [usize],
 ) -> Answer
-    ensures { λ r. ⌜ Ends (penetration plain binary32 pos12 g1 g2 simplex) r (λ m. allLent m vertices ids floats deleted edges «heap_ids» «heap_keys» pending) ⌝ }
+    ensures answer { λ r. ⌜ Ends (penetration plain binary32 pos12 g1 g2 simplex) r (λ m. allLent m vertices ids floats deleted edges «heap_ids» «heap_keys» pending) ⌝ }
+    ensures told { λ r. ⌜ Told answerNumber answerValues r (penetration plain binary32 pos12 g1 g2 simplex (allLent called vertices ids floats deleted edges «heap_ids» «heap_keys» pending) .answer) ⌝ }
 {
     let finish = run(
         vertices,

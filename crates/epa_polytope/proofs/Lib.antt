@@ -34,6 +34,7 @@ pub mod TwinRuns
 pub mod Agreeing
 pub mod Agreement
 pub mod Doing
+pub mod Only
 pub mod Pushing
 pub mod Growing
 pub mod Pairing

@@ -2,6 +2,7 @@
 use Prim.Native.Nat.{ℕ, _/_}
 use mathlib.Core.List.{List, [], _∷_, _++_}
 use lib.Ieee.{Float, Format, binary32, binary64, toBits}
+use Rattle.vector.specs.Vector.{zeroV}
 use Rattle.vector.specs.declared.vec3.Vec3.{Vec3}
 use Rattle.lines.specs.Text.{hexOf, decimalOf}
 use Rattle.lines.specs.declared.line.Counts.{Counts}
@@ -72,6 +73,28 @@ outcomeNumber (Penetration a b n c) = 0
 outcomeNumber (NoAnswer c) = 1
 outcomeNumber Panic = 2
 outcomeNumber (NoPlace c) = 3
+
+-- and its values: two points, and the normal or the direction; zeros where it has none, and of a run its counts
+pub record Values : Type 0 where
+  pub point1 : Vec3
+  pub point2 : Vec3
+  pub normal : Vec3
+  pub counts : Counts
+
+abbrev pub values : Vec3 → Vec3 → Vec3 → Counts → Values
+values p1 p2 n c = record { point1 = p1; point2 = p2; normal = n; counts = c }
+
+abbrev pub noCounts : Counts
+noCounts = record { expansions = 0; made = 0; live = 0; edges = 0; missed = 0 }
+
+unfoldable pub outcomeValues : Outcome → Values
+outcomeValues (ClosestPoints a b n) = values a b n noCounts
+outcomeValues (Proximity v) = values zeroV zeroV v noCounts
+outcomeValues (NoIntersection v) = values zeroV zeroV v noCounts
+outcomeValues (Penetration a b n c) = values a b n c
+outcomeValues (NoAnswer c) = values zeroV zeroV zeroV c
+outcomeValues Panic = values zeroV zeroV zeroV noCounts
+outcomeValues (NoPlace c) = values zeroV zeroV zeroV c
 
 -- ---- lines
 

@@ -15,7 +15,7 @@ pub enum Placed {
 }
 
 // The bytes of `text` go to the places from `at` on.
-pub fn copy(out: &mut [u8], at: usize, text: &[u8]) -> usize
+pub(crate) fn copy(out: &mut [u8], at: usize, text: &[u8]) -> usize
     requires { ⌜ at + length (now text) ≤ length (now out) ⌝ }
     ensures { λ r. ⌜ Put (now (out .entry)) at (now (text .entry)) (now (out .exit)) r ⌝ }
 {
@@ -42,7 +42,7 @@ pub fn place(out: &mut [u8], at: usize, text: &[u8]) -> Placed
     Placed::Next(copy(out, at, text))
 }
 
-pub fn put_byte(out: &mut [u8], at: usize, byte: u8) -> usize
+pub(crate) fn put_byte(out: &mut [u8], at: usize, byte: u8) -> usize
     requires { ⌜ at + 1 ≤ length (now out) ⌝ }
     ensures { λ r. ⌜ Put (now (out .entry)) at (byte ∷ []) (now (out .exit)) r ⌝ }
 {
@@ -70,7 +70,7 @@ fn put_hex_pair(out: &mut [u8], at: usize, n: u32) -> usize
 }
 
 // All eight.
-pub fn put_hex(out: &mut [u8], at: usize, n: u32) -> usize
+pub(crate) fn put_hex(out: &mut [u8], at: usize, n: u32) -> usize
     requires { ⌜ at + 8 ≤ length (now out) ⌝ }
     ensures { λ r. ⌜ Put (now (out .entry)) at (hexOf n) (now (out .exit)) r ⌝ }
 {
@@ -99,7 +99,7 @@ fn digit(n: u64) -> u8
 }
 
 // At most `more` + 1 digits, without leading zeros.
-pub fn put_decimal(out: &mut [u8], at: usize, n: u64, more: usize) -> usize
+pub(crate) fn put_decimal(out: &mut [u8], at: usize, n: u64, more: usize) -> usize
     requires { ⌜ at + (more + 1) ≤ length (now out) ⌝ }
     ensures { λ r. ⌜ Put (now (out .entry)) at (decimalIn more n) (now (out .exit)) r ⌝ }
 {

@@ -1,5 +1,7 @@
 // A run of the polytope, told as the outcome of a record: letters P, N, X and R, with the run's counts.
 ghost use mathlib.Core.Path.{_≡_};
+ghost use Rattle.number.specs.Told.{Told};
+ghost use Rattle.lines.specs.Lines.{outcomeNumber, outcomeValues};
 ghost use Rattle.outcome.specs.Outcome.{countsOf, outcomeOf};
 use epa_polytope::End;
 use lines::Outcome;
@@ -17,7 +19,8 @@ fn counts_of(c: epa::Counts) -> lines::Counts
 }
 
 pub fn outcome_of(answer: epa::Answer) -> Outcome
-    ensures { λ r. ⌜ r ≡ outcomeOf answer ⌝ }
+    ensures answer { λ r. ⌜ r ≡ outcomeOf answer ⌝ }
+    ensures told { λ r. ⌜ Told outcomeNumber outcomeValues r (outcomeOf answer) ⌝ }
 {
     let end = answer.end;
     let counts = answer.counts;

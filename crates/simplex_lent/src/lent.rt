@@ -2,9 +2,9 @@
 // What is refused leaves it as it came in, for the operation by value hands it back so.
 ghost use mathlib.Core.Path.{_≡_};
 ghost use lib.Ieee.{binary32};
-ghost use Rattle.number.specs.Told.{Told};
-ghost use Rattle.simplex.specs.Operations.{resetSimplex, addPoint};
-ghost use Rattle.reduction.specs.Reduction.{projectOrigin, projectedNumber, projectedValues, applyLocation, projectOriginAndReduce};
+ghost use Rattle.number.specs.Told.{Told, noValues};
+ghost use Rattle.simplex.specs.Operations.{resetSimplex, outcomeNumber, addPoint, answerNumber, answerValue};
+ghost use Rattle.reduction.specs.Reduction.{projectOrigin, projectedNumber, projectedValues, applyLocation, applicationNumber, projectOriginAndReduce};
 use crate::turns::in_turn;
 use reduction::Application;
 use reduction::Location;
@@ -16,7 +16,8 @@ use simplex::VoronoiSimplex;
 
 // The simplex becomes the one vertex.
 pub fn reset(s: &mut VoronoiSimplex, pt: Vertex) -> Outcome
-    ensures { λ r. ⌜ (now (s .exit) ≡ resetSimplex (now (s .entry)) pt .simplex) × (r ≡ resetSimplex (now (s .entry)) pt .outcome) ⌝ }
+    ensures answer { λ r. ⌜ (now (s .exit) ≡ resetSimplex (now (s .entry)) pt .simplex) × (r ≡ resetSimplex (now (s .entry)) pt .outcome) ⌝ }
+    ensures told { λ r. ⌜ Told outcomeNumber noValues r (resetSimplex (now (s .entry)) pt .outcome) ⌝ }
 {
     let r = VoronoiSimplex::reset(*s, pt);
     *s = r.simplex;
@@ -25,7 +26,8 @@ pub fn reset(s: &mut VoronoiSimplex, pt: Vertex) -> Outcome
 
 // Adds a vertex, and answers no where it would add nothing.
 pub fn add_point(s: &mut VoronoiSimplex, pt: Vertex) -> Answer
-    ensures { λ r. ⌜ (now (s .exit) ≡ addPoint binary32 (now (s .entry)) pt .simplex) × (r ≡ addPoint binary32 (now (s .entry)) pt .answer) ⌝ }
+    ensures answer { λ r. ⌜ (now (s .exit) ≡ addPoint binary32 (now (s .entry)) pt .simplex) × (r ≡ addPoint binary32 (now (s .entry)) pt .answer) ⌝ }
+    ensures told { λ r. ⌜ Told answerNumber answerValue r (addPoint binary32 (now (s .entry)) pt .answer) ⌝ }
 {
     let r = VoronoiSimplex::add_point(*s, pt);
     *s = r.simplex;
@@ -42,7 +44,8 @@ pub fn project_origin(s: &VoronoiSimplex) -> Projected
 
 // Reduces the simplex to a location.
 pub fn apply_location(s: &mut VoronoiSimplex, location: Location) -> Application
-    ensures { λ r. ⌜ (now (s .exit) ≡ applyLocation (now (s .entry)) location .simplex) × (r ≡ applyLocation (now (s .entry)) location .outcome) ⌝ }
+    ensures answer { λ r. ⌜ (now (s .exit) ≡ applyLocation (now (s .entry)) location .simplex) × (r ≡ applyLocation (now (s .entry)) location .outcome) ⌝ }
+    ensures told { λ r. ⌜ Told applicationNumber noValues r (applyLocation (now (s .entry)) location .outcome) ⌝ }
 {
     let r = reduction::apply_location(*s, location);
     *s = r.simplex;
@@ -51,7 +54,8 @@ pub fn apply_location(s: &mut VoronoiSimplex, location: Location) -> Application
 
 // Both in turn: projects the origin on the simplex, and reduces it to the part that holds the projection.
 pub fn project_origin_and_reduce(s: &mut VoronoiSimplex) -> Projected
-    ensures { λ r. ⌜ (now (s .exit) ≡ projectOriginAndReduce binary32 (now (s .entry)) .simplex) × (r ≡ projectOriginAndReduce binary32 (now (s .entry)) .projection) ⌝ }
+    ensures answer { λ r. ⌜ (now (s .exit) ≡ projectOriginAndReduce binary32 (now (s .entry)) .simplex) × (r ≡ projectOriginAndReduce binary32 (now (s .entry)) .projection) ⌝ }
+    ensures told { λ r. ⌜ Told projectedNumber projectedValues r (projectOriginAndReduce binary32 (now (s .entry)) .projection) ⌝ }
 {
     let r = in_turn(*s);
     *s = r.simplex;

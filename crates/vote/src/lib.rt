@@ -2,7 +2,8 @@
 // of the same name in specs/Vote.antt, which carries the scope document's rule.
 ghost use mathlib.Core.Path.{_≡_};
 ghost use lib.Ieee.{binary32};
-ghost use Rattle.vote.specs.Vote.{agree, sameBits, sameBitsV, sameCounts, voteOf};
+ghost use Rattle.number.specs.Told.{Told};
+ghost use Rattle.vote.specs.Vote.{agree, sameBits, sameBitsV, sameCounts, voteOf, verdictNumber, verdictAnswer};
 use vector::Vec3;
 
 // The counts of a run: expansions completed, faces made, faces live at the end, most edges in one pass, lookups that missed.
@@ -67,7 +68,8 @@ pub fn agree(a: Answer, b: Answer) -> bool
 
 // The answers of channels 1, 2 and 3: the first of 1 and 2, 1 and 3, 2 and 3 that agree decides.
 pub fn vote(a: Answer, b: Answer, c: Answer) -> Verdict
-    ensures { λ r. ⌜ r ≡ voteOf binary32 a b c ⌝ }
+    ensures answer { λ r. ⌜ r ≡ voteOf binary32 a b c ⌝ }
+    ensures told { λ r. ⌜ Told verdictNumber verdictAnswer r (voteOf binary32 a b c) ⌝ }
 {
     let first_last = agree(a, c);
     if agree(a, b) {

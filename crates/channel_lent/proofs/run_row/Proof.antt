@@ -20,7 +20,7 @@ lent c = let start = place tie.Start (search) in pairs-lent (start .args .row) (
 returns : tie.Need-returns
 returns c = (
   row-back (place tie.Start (search) .args .row) _ _ (place tie.Start (search) .pre) (place tie.After-separate (search) .separate .kept .1 .1 .1 .1 .1 .1 .1 .1 .1 .1 .0)
-      (place tie.After-separate (search) .separate .ensures),
+      (place tie.After-separate (search) .separate .ensures .0),
   refl,
 )
 

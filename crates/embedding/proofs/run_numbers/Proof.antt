@@ -39,7 +39,7 @@ returns-3 c =
       sym (asked2 (both (place tie.After-separate (search))) .shape-of2 .ensures) ∙ both (place tie.After-separate (search)) .second .given .1,
       c .answer-of .ensures,
     )
-    (ap (λ (x : Final Outcome). answered answerOf x) (place tie.After-separate (search) .separate .ensures))
+    (ap (λ (x : Final Outcome). answered answerOf x) (place tie.After-separate (search) .separate .ensures .0))
 
 pub run-numbers-spec : {M : Type 1} → statement M
 run-numbers-spec = tie.close (tie.spec (λ c κs. tt) (λ c. search needs) (λ c. search needs) (λ c κs. tt) returns (λ c κs. tt) (λ c. search needs) (λ c. search needs) (λ c κs. tt) returns-2

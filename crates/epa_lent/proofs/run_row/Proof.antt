@@ -18,7 +18,7 @@ lent c = let start = place tie.Start (search) in pairs-lent (start .args .row) (
 returns : tie.Need-returns
 returns c = (
   row-back (place tie.Start (search) .args .row) _ _ (place tie.Start (search) .pre) (place tie.After-closest-points-plain (search) .closest-points-plain .kept .1 .1 .1 .1 .1 .1 .1 .1 .0)
-      (place tie.After-closest-points-plain (search) .closest-points-plain .ensures),
+      (place tie.After-closest-points-plain (search) .closest-points-plain .ensures .0),
   refl,
 )
 

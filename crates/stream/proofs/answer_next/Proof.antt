@@ -19,7 +19,7 @@ read c = search
 returns-2 : tie.Need-returns-2
 returns-2 c =
     whole binary32 _ _ _ _ _ _ _ (place tie.Else1 (search) .if1 .left) (read (separated (search)) .read-case .ensures .0) (place tie.After-found (search) .found .given .1)
-    (separated (search) .separate .ensures) (place tie.After-write-line (search) .write-line .ensures) (c .line-turn .ensures)
+    (separated (search) .separate .ensures .0) (place tie.After-write-line (search) .write-line .ensures) (c .line-turn .ensures)
 
 returns-3 : tie.Need-returns-3
 returns-3 c =

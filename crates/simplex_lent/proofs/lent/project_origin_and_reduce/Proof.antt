@@ -36,9 +36,10 @@ use denote.Triple.Call.{calls-at}
 use denote.Triple.Entry.{onEntry}
 use denote.Triple.Spec.{Meets, tripleOf}
 use denote.Triple.Table.{entered, cited}
-use denote.Triple.Walked.{says, Stays, stay-ref, walkOf, AllGo, goes-ref, Walks, ends-at, walked, walk-meets}
+use denote.Triple.Walked.{Stays, stay-ref, walkOf, AllGo, goes-ref, Walks, ends-at, walked, walk-meets}
 use denote.Triple.Clauses.{ensured, lasts}
 use lib.Ieee.{binary32}
+use Rattle.number.proofs.Told.{told}
 use Rattle.reduction.specs.Reduction.{projectOriginAndReduce}
 use Rattle.simplex.specs.declared.voronoi_simplex.VoronoiSimplex.{VoronoiSimplex}
 use Rattle.reduction.specs.declared.location.Projected.{Projected}
@@ -53,6 +54,7 @@ use Rattle.simplex_lent.proofs.turns.in_turn as core
 use Rattle.simplex_lent.proofs.turns.in_turn.Symbol as core-def
 use Rattle.simplex_lent.proofs.turns.in_turn.Symbol.{name as #by-value}
 use Rattle.simplex_lent.proofs.turns.in_turn.Met as core-thm
+use Rattle.simplex_lent.proofs.Clauses.{says-both}
 use Rattle.simplex_lent.proofs.lent.project_origin_and_reduce.Key.{name as #lent}
 use Rattle.simplex_lent.proofs.lent.project_origin_and_reduce as lent
 use Rattle.simplex_lent.proofs.lent.project_origin_and_reduce.Statement as stated
@@ -101,7 +103,7 @@ module _ {M : Type 1} (𝓤 : URA M) (H : Heap 𝓤) (A : Atoms 𝓤) (W : Given
   exits : (r : Reduced) → Both h r → Is E.the-row (r .projection) (ans (r .projection) ∷ []) → ent 𝓤 (⋆ 𝓤 H A (‵ (fobs γ (R .coded .code (r .simplex))) ∷ ‵ (fbor κ (Body (mem R) b o γ)) ∷ ‵ (flft κ q) ∷ [])) (Post (ans (r .projection)))
   exits r e is =
       qed W (‵ (fobs γ (R .coded .code (r .simplex))) ∷ ‵ (fbor κ (Body (mem R) b o γ)) ∷ ‵ (flft κ q) ∷ []) ∵
-      suffices ! _ (ends-at 𝓤 H A lent.ended stayed (lent.clauses 𝓤 H A at-mem run) W (((κ, tt), (q, tt), tt, x, at), tt) (ans (r .projection)) (r .projection) (r .simplex, tt) (tt, tt)) $ says ! e $ nothing ! $ move ! (3 ∷ 0 ∷ []) $ join ! $
+      suffices ! _ (ends-at 𝓤 H A lent.ended stayed (lent.clauses 𝓤 H A at-mem run) W (((κ, tt), (q, tt), tt, x, at), tt) (ans (r .projection)) (r .projection) (r .simplex, tt) (tt, tt)) $ says-both ! e (told (e .1)) $ nothing ! $ move ! (3 ∷ 0 ∷ []) $ join ! $
       frame ! $ feqI ! (List Val) (vptr b o ∷ []) (vptr b o ∷ []) refl $ fjoin3 ! $ nothing ! $ move ! (1 ∷ 0 ∷ []) $ fjoin ! $
       owned ! E.the-row (Is E.the-row) (EL.makes E.the-type E′.the-plain 𝓤 H A) (r .projection) _ is $ move ! (1 ∷ 0 ∷ []) $ done !
 

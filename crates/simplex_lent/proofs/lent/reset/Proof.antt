@@ -36,10 +36,11 @@ use denote.Triple.Call.{calls-at}
 use denote.Triple.Entry.{onEntry}
 use denote.Triple.Spec.{Meets, tripleOf}
 use denote.Triple.Table.{entered, cited}
-use denote.Triple.Walked.{says, Stays, stay-ref, stay-none, walkOf, AllGo, goes-none, goes-ref, Walks, ends-at, walked, walk-meets}
+use denote.Triple.Walked.{Stays, stay-ref, stay-none, walkOf, AllGo, goes-none, goes-ref, Walks, ends-at, walked, walk-meets}
 use denote.Triple.Clauses.{ensured, lasts}
 use denote.Exit.{yes}
 use Rattle.number.specs.Told.{Told, noValues}
+use Rattle.number.proofs.Told.{told}
 use Rattle.shape.specs.declared.vertex.Vertex.{Vertex}
 use Rattle.shape.proofs.vertex.Vertex as X
 use Rattle.shape.proofs.vertex.Vertex.Laws as X′
@@ -57,7 +58,7 @@ use Rattle.simplex.proofs.voronoi_simplex.VoronoiSimplex.reset as core
 use Rattle.simplex.proofs.voronoi_simplex.VoronoiSimplex.reset.Symbol as core-def
 use Rattle.simplex.proofs.voronoi_simplex.VoronoiSimplex.reset.Symbol.{name as #by-value}
 use Rattle.simplex.proofs.voronoi_simplex.VoronoiSimplex.reset.Met as core-thm
-use Rattle.simplex_lent.proofs.Clauses.{hears-first}
+use Rattle.simplex_lent.proofs.Clauses.{says-both, hears-first}
 use Rattle.simplex_lent.proofs.lent.reset.Key.{name as #lent}
 use Rattle.simplex_lent.proofs.lent.reset as lent
 use Rattle.simplex_lent.proofs.lent.reset.Statement as stated
@@ -108,7 +109,7 @@ module _ {M : Type 1} (𝓤 : URA M) (H : Heap 𝓤) (A : Atoms 𝓤) (W : Given
   exits : (r : Altered) → r ≡ resetSimplex h n → Is E.the-row (r .outcome) (ans (r .outcome) ∷ []) → ent 𝓤 (⋆ 𝓤 H A (‵ (fobs γ (R .coded .code (r .simplex))) ∷ ‵ (fbor κ (Body (mem R) b o γ)) ∷ ‵ (flft κ q) ∷ [])) (Post (ans (r .outcome)))
   exits r e is =
       qed W (‵ (fobs γ (R .coded .code (r .simplex))) ∷ ‵ (fbor κ (Body (mem R) b o γ)) ∷ ‵ (flft κ q) ∷ []) ∵
-      suffices ! _ (ends-at 𝓤 H A lent.ended stayed (lent.clauses 𝓤 H A at-mem run) W (((κ, tt), (q, tt), tt, x, at), tt) (ans (r .outcome)) (r .outcome) (r .simplex, (tt, tt)) (tt, (tt, tt))) $ says ! (ap (λ t. t .simplex) e, ap (λ t. t .outcome) e) $ nothing ! $ move ! (3 ∷ 0 ∷ []) $ join ! $
+      suffices ! _ (ends-at 𝓤 H A lent.ended stayed (lent.clauses 𝓤 H A at-mem run) W (((κ, tt), (q, tt), tt, x, at), tt) (ans (r .outcome)) (r .outcome) (r .simplex, (tt, tt)) (tt, (tt, tt))) $ says-both ! (ap (λ t. t .simplex) e, ap (λ t. t .outcome) e) (told (ap (λ t. t .outcome) e)) $ nothing ! $ move ! (3 ∷ 0 ∷ []) $ join ! $
       frame ! $ feqI ! (List Val) (vptr b o ∷ []) (vptr b o ∷ []) refl $ fjoin3 ! $ nothing ! $ owned ! Vt (Is Vt) (LL.makes X.the-type X′.the-plain 𝓤 H A) n _ n-is $ fjoin ! $ move ! (1 ∷ 0 ∷ []) $ fjoin ! $
       owned ! E.the-row (Is E.the-row) (EL.makes E.the-type E′.the-plain 𝓤 H A) (r .outcome) _ is $ move ! (1 ∷ 0 ∷ []) $ done !
 
