@@ -7,7 +7,6 @@ ghost use Prim.Native.Nat.{_≤_};
 mod answers;
 mod changes;
 mod heaps;
-mod lent;
 mod polytopes;
 mod projections;
 mod roots;

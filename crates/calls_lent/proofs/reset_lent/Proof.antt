@@ -1,5 +1,5 @@
--- `calls::lent::add_point_lent` meets its contract: a walk of its MIR, by hand. A local is lent to `simplex_lent::add_point` for a lifetime that is made for the call, is back at the simplex that this one ensures, and goes with its answer into the struct that is returned.
--- Nothing here depends on the simplex's fields. All that the proof knows of `simplex_lent::add_point` is that it meets its contract.
+-- `calls_lent::reset_lent` meets its contract: a walk of its MIR, by hand. A local is lent to `simplex_lent::reset` for a lifetime that is made for the call, is back at the simplex that this one ensures, and goes with its answer into the struct that is returned.
+-- Nothing here depends on the simplex's fields. All that the proof knows of `simplex_lent::reset` is that it meets its contract.
 -- Assumes nothing.
 use mathlib.Core.Path.{_≡_, refl, ap, subst}
 use Prim.Native.Nat.{ℕ}
@@ -40,29 +40,28 @@ use denote.Triple.Table.{entered, cited}
 use denote.Triple.Walked.{says, Stays, stay-none, walkOf, AllGo, goes-none, Walks, ends-at, walked, walk-meets}
 use denote.Triple.Clauses.{ensured, lasts}
 use denote.Exit.{yes}
-use lib.Ieee.{binary32}
 use Rattle.shape.specs.declared.vertex.Vertex.{Vertex}
 use Rattle.shape.proofs.vertex.Vertex as X
 use Rattle.shape.proofs.vertex.Vertex.Laws as X′
-use Rattle.number.specs.Told.{Told}
-use Rattle.simplex.specs.Operations.{addPoint, answerNumber, answerValue}
+use Rattle.number.specs.Told.{Told, noValues}
+use Rattle.simplex.specs.Operations.{resetSimplex, outcomeNumber}
 use Rattle.simplex.specs.declared.voronoi_simplex.VoronoiSimplex.{VoronoiSimplex}
-use Rattle.simplex.specs.declared.operations.Answer.{Answer}
-use Rattle.simplex.specs.declared.operations.Added.{Added}
-use Rattle.simplex.proofs.operations.Answer as E
-use Rattle.simplex.proofs.operations.Answer.Laws as E′
-use Rattle.simplex.proofs.operations.Added as B
-use Rattle.simplex.proofs.operations.Added.Laws as B′
+use Rattle.simplex.specs.declared.operations.Outcome.{Outcome}
+use Rattle.simplex.specs.declared.operations.Altered.{Altered}
+use Rattle.simplex.proofs.operations.Outcome as E
+use Rattle.simplex.proofs.operations.Outcome.Laws as E′
+use Rattle.simplex.proofs.operations.Altered as B
+use Rattle.simplex.proofs.operations.Altered.Laws as B′
 use Rattle.simplex.proofs.voronoi_simplex.VoronoiSimplex as T
 use Rattle.simplex.proofs.voronoi_simplex.VoronoiSimplex.Laws as T′
-use Rattle.simplex_lent.proofs.add_point as thin
-use Rattle.simplex_lent.proofs.add_point.Symbol as thin-def
-use Rattle.simplex_lent.proofs.add_point.Symbol.{name as #thin}
-use Rattle.simplex_lent.proofs.add_point.Met as thin-thm
-use Rattle.calls.proofs.lent.add_point_lent.Key.{name as #by}
-use Rattle.calls.proofs.lent.add_point_lent as by-value
-use Rattle.calls.proofs.lent.add_point_lent.Statement as stated
-use Rattle.calls.proofs.lent.add_point_lent.Code as code
+use Rattle.simplex_lent.proofs.reset as thin
+use Rattle.simplex_lent.proofs.reset.Symbol as thin-def
+use Rattle.simplex_lent.proofs.reset.Symbol.{name as #thin}
+use Rattle.simplex_lent.proofs.reset.Met as thin-thm
+use Rattle.calls_lent.proofs.reset_lent.Key.{name as #by}
+use Rattle.calls_lent.proofs.reset_lent as by-value
+use Rattle.calls_lent.proofs.reset_lent.Statement as stated
+use Rattle.calls_lent.proofs.reset_lent.Code as code
 
 -- the struct's type, and that of the other parameter, with their machine values
 abbrev R : RattleType
@@ -71,10 +70,10 @@ R = T.the-row
 abbrev Vt : RattleType
 Vt = X.the-row
 
-abbrev ans : Answer → Val
+abbrev ans : Outcome → Val
 ans d = EL.val E.the-type E′.the-laws d
 
-abbrev made : Added → Val
+abbrev made : Altered → Val
 made d = LL.val B.the-type B′.the-laws d
 
 abbrev mach : VoronoiSimplex → Val
@@ -102,13 +101,13 @@ module _ {M : Type 1} (𝓤 : URA M) (H : Heap 𝓤) (A : Atoms 𝓤) (W : Given
 
   -- the simplex at exit and the answer
   abbrev r : VoronoiSimplex
-  r = addPoint binary32 h n .simplex
+  r = resetSimplex h n .simplex
 
-  abbrev o : Answer
-  o = addPoint binary32 h n .answer
+  abbrev o : Outcome
+  o = resetSimplex h n .outcome
 
-  abbrev both : Added
-  both = record { simplex = r; answer = o }
+  abbrev both : Altered
+  both = record { simplex = r; outcome = o }
 
   abbrev Post : Val → SProp 𝓤
   Post = walkOf 𝓤 H A by-value.ended stayed (by-value.clauses 𝓤 H A at-mem run) .post ((tt, tt, tt, a, at), tt)
@@ -153,8 +152,8 @@ module _ {M : Type 1} (𝓤 : URA M) (H : Heap 𝓤) (A : Atoms 𝓤) (W : Given
   gives-thin : (ν : ℕ) (γ : GName) (l : ℕ) (w : Val) → ent 𝓤 (Thin 𝓤 H A at-mem run .post (to-thin ν γ l) w) (H .⇛ (guard 𝓤 (Is E.the-row o (w ∷ [])) (sep 𝓤 (A .lft (ν ∷ []) fullShare) (A .res γ (R .coded .code r)))))
   gives-thin ν γ l w =
       qed W (raw (Thin 𝓤 H A at-mem run .post (to-thin ν γ l) w) ∷ []) ∵ updating ! $
-      use1 W (later (some (λ (u : Answer). ((‵ (flft (ν ∷ []) fullShare) ⊛ ‵ ftrue) ⊛ ‵ (E.the-row .own u (w ∷ []))) ⊛ raw (ensured 𝓤 H A thin.ended (thin.clauses 𝓤 H A at-mem run) (ν ∷ [], tt) (x l γ, (n, tt)) tt u)))) (id⊢ 𝓤 _) $ await ! tt $ pick ! (λ u.
-      split ! $ move ! (1 ∷ []) $ use1 W (some (λ (ws : VoronoiSimplex × (Unit {0} × Unit {0})). ‵ (lasts thin.ended (ν ∷ [], tt) (x l γ, (n, tt)) ws) ⊛ (raw (fact 𝓤 ((ws .0 ≡ r) × (u ≡ o))) ⊛ raw (fact 𝓤 (Told answerNumber answerValue u o))))) (id⊢ 𝓤 _) $ pick ! (λ ws.
+      use1 W (later (some (λ (u : Outcome). ((‵ (flft (ν ∷ []) fullShare) ⊛ ‵ ftrue) ⊛ ‵ (E.the-row .own u (w ∷ []))) ⊛ raw (ensured 𝓤 H A thin.ended (thin.clauses 𝓤 H A at-mem run) (ν ∷ [], tt) (x l γ, (n, tt)) tt u)))) (id⊢ 𝓤 _) $ await ! tt $ pick ! (λ u.
+      split ! $ move ! (1 ∷ []) $ use1 W (some (λ (ws : VoronoiSimplex × (Unit {0} × Unit {0})). ‵ (lasts thin.ended (ν ∷ [], tt) (x l γ, (n, tt)) ws) ⊛ (raw (fact 𝓤 ((ws .0 ≡ r) × (u ≡ o))) ⊛ raw (fact 𝓤 (Told outcomeNumber noValues u o))))) (id⊢ 𝓤 _) $ pick ! (λ ws.
       split ! $ move ! (1 ∷ []) $ split ! $ heard ! ((ws .0 ≡ r) × (u ≡ o)) (λ e. drop ! $ fsplit ! $ rewrite ! 0 (λ (d : VoronoiSimplex). ‵ (fres γ (R .coded .code d))) (e .0) refl $
       move ! (2 ∷ []) $ split ! $ split ! $ move ! (2 ∷ []) $ facts ! E.the-row (Is E.the-row) (shows 𝓤 H A E.the-row) u (w ∷ []) (λ is. at-once ! $ check ! (subst (λ d. Is E.the-row d (w ∷ [])) (e .1) is) $ keep ! (0 ∷ 2 ∷ []) $ done !))))
 
@@ -200,10 +199,10 @@ by-meets : {M : Type 1} (𝓤 : URA M) (H : Heap 𝓤) (A : Atoms 𝓤) → Give
 by-meets 𝓤 H A W at-mem run 𝓣 known = walk-meets 𝓤 H A by-value.ended stayed W (goes 𝓤 H A W at-mem run) (by-value.clauses 𝓤 H A at-mem run) (WpFn 𝓤 H (𝓣 .C) (𝓣 .Λ) code.function) (WpFn-mono 𝓤 H (W .laws) 𝓣 code.function)
     (by-walks 𝓤 H A W at-mem run (𝓣 .C) (𝓣 .Λ) (fmOf 𝓤 H (W .laws) 𝓣) known)
 
-pub add-point-lent-spec : {M : Type 1} → stated.statement M
+pub reset-lent-spec : {M : Type 1} → stated.statement M
 unfolding code.routine tablesOf
-add-point-lent-spec 𝓤 H 𝓜 𝓖 𝓡 =
+reset-lent-spec 𝓤 H 𝓜 𝓖 𝓡 =
     entered 𝓤 H (tripleOf 𝓤 H (𝓖 .A) by-value.signature (by-value.spec 𝓤 H (𝓖 .A) (𝓜 .mem) (𝓡 .run)))
     (tables 𝓤 H 𝓜 𝓡 code.env .C) (tables 𝓤 H 𝓜 𝓡 code.env .Λ) #by code.function (code.unfolded 𝓤 H 𝓜 𝓡)
     (by-meets 𝓤 H (𝓖 .A) (givenOf 𝓤 H 𝓜 𝓖) (𝓜 .mem) (𝓡 .run) (tablesOf 𝓤 H 𝓜 (tables 𝓤 H 𝓜 𝓡 code.env))
-    (cited 𝓤 H (Thin 𝓤 H (𝓖 .A) (𝓜 .mem) (𝓡 .run)) 𝓜 𝓡 code.env #thin thin-def.routine code.calls-simplex-lent·add-point (thin-thm.met 𝓤 H 𝓜 𝓖 𝓡)))
+    (cited 𝓤 H (Thin 𝓤 H (𝓖 .A) (𝓜 .mem) (𝓡 .run)) 𝓜 𝓡 code.env #thin thin-def.routine code.calls-simplex-lent·reset (thin-thm.met 𝓤 H 𝓜 𝓖 𝓡)))
