@@ -1,16 +1,12 @@
-//! A record as a call of the port's library, through bindings/separation.rs.
+//! A record as a call of the port's library, through the crate of bindings/.
 
-#[path = "../bindings/separation.rs"]
+#[path = "../bindings/src/lib.rs"]
 #[allow(dead_code)]
 mod separation;
 
 use crate::casefile::{self, Record};
-use crate::channel::ROOMS;
 use crate::Checksum;
-use separation::{Answer, Edge, Pose, Shape, Stores, Vector};
-
-/// The letters of document 01 in the order of the outcomes' numbers.
-const LETTERS: &[u8; 7] = b"DMSPNXR";
+use separation::{Answer, Outcome, OwnedStores, Pose, Shape, Vector, PROGRAM};
 
 pub struct Call {
     pose: Pose,
@@ -52,50 +48,16 @@ impl From<&Record> for Call {
 }
 
 /// The stores that each call is lent: as long as the program's.
-pub struct Room {
-    vertices: Vec<f32>,
-    ids: Vec<usize>,
-    floats: Vec<f32>,
-    deleted: Vec<u8>,
-    edges: Vec<Edge>,
-    heap_ids: Vec<usize>,
-    heap_keys: Vec<f32>,
-    pending: Vec<usize>,
-}
+pub struct Room(OwnedStores);
 
 impl Default for Room {
     fn default() -> Self {
-        Self {
-            vertices: vec![0.0; 9 * ROOMS.vertices],
-            ids: vec![0; 6 * ROOMS.faces],
-            floats: vec![0.0; 6 * ROOMS.faces],
-            deleted: vec![0; ROOMS.faces],
-            edges: vec![Edge { face: 0, corner: 0 }; ROOMS.edges],
-            heap_ids: vec![0; ROOMS.heap],
-            heap_keys: vec![0.0; ROOMS.heap],
-            pending: vec![0; 2 * ROOMS.pending],
-        }
-    }
-}
-
-impl Room {
-    fn lent(&mut self) -> Stores<'_> {
-        Stores {
-            vertices: &mut self.vertices,
-            ids: &mut self.ids,
-            floats: &mut self.floats,
-            deleted: &mut self.deleted,
-            edges: &mut self.edges,
-            heap_ids: &mut self.heap_ids,
-            heap_keys: &mut self.heap_keys,
-            pending: &mut self.pending,
-        }
+        Self(OwnedStores::new(PROGRAM))
     }
 }
 
 impl Call {
     pub fn run(&self, room: &mut Room) -> Answer {
-        let mut stores = room.lent();
         separation::run(
             self.pose,
             self.first,
@@ -103,18 +65,18 @@ impl Call {
             self.direction,
             self.max_distance,
             self.exact,
-            &mut stores,
+            room.0.lend(),
         )
     }
 }
 
 /// What a line of output has of an answer, in its order.
 pub fn add_answer(checksum: &mut Checksum, answer: &Answer) {
-    let letter = LETTERS[usize::from(answer.outcome)];
-    checksum.add(u64::from(letter));
-    let vectors: &[Vector] = match letter {
-        b'D' | b'P' => &[answer.point1, answer.point2, answer.normal],
-        b'M' | b'S' => &[answer.normal],
+    use Outcome::{ClosestPoints, NoAnswer, NoIntersection, NoRoom, Penetration, Proximity};
+    checksum.add(u64::from(answer.outcome.letter()));
+    let vectors: &[Vector] = match answer.outcome {
+        ClosestPoints | Penetration => &[answer.point1, answer.point2, answer.normal],
+        Proximity | NoIntersection => &[answer.normal],
         _ => &[],
     };
     for vector in vectors {
@@ -122,7 +84,7 @@ pub fn add_answer(checksum: &mut Checksum, answer: &Answer) {
         checksum.add_float(vector.y);
         checksum.add_float(vector.z);
     }
-    if matches!(letter, b'P' | b'N' | b'R') {
+    if matches!(answer.outcome, Penetration | NoAnswer | NoRoom) {
         let counts = answer.counts;
         for count in [counts.expansions, counts.made, counts.live, counts.edges, counts.missed] {
             checksum.add(count as u64);

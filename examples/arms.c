@@ -1,22 +1,11 @@
 /* Two links of two arms: how far apart are they? Prints the line that the program prints for the same case. */
-#include "separation.h"
+#include <separation.h>
 
 #include <math.h>
 #include <stdio.h>
 #include <string.h>
 
-enum { VERTICES = 105, FACES = 1000, EDGES = 206, HEAP = 1000, PENDING = 206 };
-
-static float vertices[9 * VERTICES];
-static size_t ids[6 * FACES];
-static float floats[6 * FACES];
-static uint8_t deleted[FACES];
-static separation_edge edges[EDGES];
-static size_t heap_ids[HEAP];
-static float heap_keys[HEAP];
-static size_t pending[2 * PENDING];
-
-#define LENT(slice) slice, sizeof slice / sizeof slice[0]
+SEPARATION_STATIC_STORES(stores, PROGRAM);
 
 static separation_answer run(float along_x)
 {
@@ -24,8 +13,7 @@ static separation_answer run(float along_x)
     separation_shape lower = {SEPARATION_CUBOID, {0.5f, 0.25f, 1}, {0, 0, 0}, {0, 0, 0}};
     separation_pose pose = {0, 0, 0, 1, {along_x, 0, 0.5f}};
     separation_vector dir = {1, 0, 0};
-    return separation_run(pose, upper, lower, dir, 10, true, LENT(vertices), LENT(ids), LENT(floats),
-                          LENT(deleted), LENT(edges), LENT(heap_ids), LENT(heap_keys), LENT(pending));
+    return separation_run_on(pose, upper, lower, dir, 10, true, &stores);
 }
 
 static void print_vector(separation_vector v)
@@ -40,12 +28,12 @@ static void print_vector(separation_vector v)
 
 static void print_answer(int number, separation_answer a)
 {
-    printf("%d %c", number, "DMSPNXR"[a.outcome]);
+    printf("%d %c", number, a.outcome);
     if (a.outcome == SEPARATION_CLOSEST_POINTS || a.outcome == SEPARATION_PENETRATION) {
         print_vector(a.point1);
         print_vector(a.point2);
     }
-    if (a.outcome <= SEPARATION_PENETRATION)
+    if (separation_number(a.outcome) == 0)
         print_vector(a.normal);
     if (a.outcome == SEPARATION_PENETRATION || a.outcome == SEPARATION_NO_ANSWER || a.outcome == SEPARATION_NO_ROOM)
         printf(" %zu %zu %zu %zu %zu", a.counts.expansions, a.counts.made, a.counts.live, a.counts.edges,
@@ -53,21 +41,53 @@ static void print_answer(int number, separation_answer a)
     printf("\n");
 }
 
+static separation_answer with_x(separation_answer a, float x)
+{
+    a.normal.x = x;
+    return a;
+}
+
+/* Whether the vote of three answers names the channel that is odd, or none by 0. */
+static bool names(size_t odd, separation_answer a, separation_answer b, separation_answer c)
+{
+    separation_voted voted = separation_vote(a, b, c);
+    return voted.number == SEPARATION_AGREED && voted.odd == odd;
+}
+
+static bool declines(separation_answer a, separation_answer b, separation_answer c)
+{
+    separation_voted voted = separation_vote(a, b, c);
+    return voted.number == SEPARATION_NO_TWO_AGREE && separation_number(voted.answer.outcome) == SEPARATION_NO_TWO_AGREE;
+}
+
 /* Three channels agree, so the vote names none, also where all answer a NaN; -0 does not pass for +0. */
+static bool votes_well(separation_answer apart, separation_answer meet)
+{
+    separation_answer none = with_x(meet, NAN), plus = with_x(meet, 0.0f), minus = with_x(meet, -0.0f);
+    return names(0, meet, run(0.5f), run(0.5f)) && names(2, meet, apart, meet) && names(0, none, none, none)
+        && names(2, plus, minus, plus) && declines(none, plus, minus);
+}
+
+/* A shape of no kind is malformed, without a store too. */
+static bool refuses_kind_4(void)
+{
+    separation_shape none = {4, {0, 0, 0}, {0, 0, 0}, {0, 0, 0}};
+    separation_pose pose = {0, 0, 0, 1, {0, 0, 0}};
+    separation_vector dir = {1, 0, 0};
+    separation_stores no_stores = {NULL, 0, NULL, 0, NULL, 0, NULL, 0, NULL, 0, NULL, 0, NULL, 0, NULL, 0};
+    separation_answer answer = separation_run_on(pose, none, none, dir, 10, true, &no_stores);
+    return answer.outcome == SEPARATION_MALFORMED && separation_number(answer.outcome) == 4;
+}
+
+/* Status 2: the floating-point environment is not the one that every channel must have. */
 int main(void)
 {
+    if (!separation_environment())
+        return 2;
     separation_answer apart = run(1), meet = run(0.5f);
     printf("separation 1\n");
     print_answer(1, apart);
     print_answer(2, meet);
     printf("cases 2\n");
-    separation_voted voted = separation_vote(meet, run(0.5f), run(0.5f));
-    separation_voted odd = separation_vote(meet, apart, meet);
-    separation_answer none = meet, plus = meet, minus = meet;
-    none.normal.x = NAN;
-    plus.normal.x = 0.0f;
-    minus.normal.x = -0.0f;
-    separation_voted same = separation_vote(none, none, none), zeros = separation_vote(plus, minus, plus);
-    return voted.number == 0 && voted.odd == 0 && odd.number == 0 && odd.odd == 2
-        && same.number == 0 && same.odd == 0 && zeros.number == 0 && zeros.odd == 2 ? 0 : 1;
+    return votes_well(apart, meet) && refuses_kind_4() ? 0 : 1;
 }

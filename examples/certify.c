@@ -1,21 +1,10 @@
 /* Two links of two arms, as hulls in millimetres: does the direction that the channel finds between them show that they are apart?
  * Prints the numbers of the checker's answers: accepted; declined with the hulls exchanged, and with no direction at all. */
-#include "separation.h"
+#include <separation.h>
 
 #include <stdio.h>
 
-enum { VERTICES = 105, FACES = 1000, EDGES = 206, HEAP = 1000, PENDING = 206 };
-
-static float vertices[9 * VERTICES];
-static size_t ids[6 * FACES];
-static float floats[6 * FACES];
-static uint8_t deleted[FACES];
-static separation_edge edges[EDGES];
-static size_t heap_ids[HEAP];
-static float heap_keys[HEAP];
-static size_t pending[2 * PENDING];
-
-#define LENT(slice) slice, sizeof slice / sizeof slice[0]
+SEPARATION_STATIC_STORES(stores, PROGRAM);
 
 /* The triangles in metres, and the same corners on the grid. */
 static const separation_shape upper = {SEPARATION_TRIANGLE, {0, 0, -1}, {0, 0, 1}, {-0.5f, 0.25f, 0}};
@@ -27,16 +16,14 @@ static separation_grid_vector direction_between(void)
 {
     separation_pose pose = {0, 0, 0, 1, {0, 0, 0}};
     separation_vector start = {1, 0, 0};
-    separation_answer found = separation_run(pose, upper, lower, start, 10, true, LENT(vertices), LENT(ids), LENT(floats),
-                                             LENT(deleted), LENT(edges), LENT(heap_ids), LENT(heap_keys), LENT(pending));
-    return separation_propose(found.normal);
+    return separation_propose(separation_run_on(pose, upper, lower, start, 10, true, &stores).normal);
 }
 
 int main(void)
 {
     separation_grid_vector direction = direction_between(), none = {0, 0, 0};
-    printf("%2u\n", separation_certify(LENT(upper_hull), LENT(lower_hull), direction));
-    printf("%2u\n", separation_certify(LENT(lower_hull), LENT(upper_hull), direction));
-    printf("%2u\n", separation_certify(LENT(upper_hull), LENT(lower_hull), none));
+    printf("%2u\n", separation_certify(SEPARATION_LENT(upper_hull), SEPARATION_LENT(lower_hull), direction));
+    printf("%2u\n", separation_certify(SEPARATION_LENT(lower_hull), SEPARATION_LENT(upper_hull), direction));
+    printf("%2u\n", separation_certify(SEPARATION_LENT(upper_hull), SEPARATION_LENT(lower_hull), none));
     return 0;
 }

@@ -1,5 +1,5 @@
 /* One arm's link swept towards the other's: when do they meet? Prints the lines that the program prints for sweep.txt. */
-#include "separation.h"
+#include <separation.h>
 
 #include <stdio.h>
 #include <string.h>

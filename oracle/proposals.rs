@@ -4,12 +4,14 @@
 #[path = "src/random.rs"]
 #[allow(dead_code)] // the other generators use the rest
 mod random;
-#[path = "../bindings/separation.rs"]
+#[path = "../bindings/src/lib.rs"]
 #[allow(dead_code)] // the cast and the vote are for others
 mod separation;
 
 use random::Random;
-use separation::{certify, propose, run, Answer, Certificate, Edge, Pose, Shape, Stores, Vector};
+use separation::{
+    certify, propose, run, Answer, Certificate, Outcome, OwnedStores, Pose, Shape, Vector, PROGRAM,
+};
 
 type Corner = [i32; 3];
 
@@ -94,17 +96,7 @@ fn hull(random: &mut Random, kind: Kind, size: usize, place: Corner) -> Hull {
     }
 }
 
-fn answer(first: &Hull, second: &Hull) -> Answer {
-    let mut stores = Stores {
-        vertices: &mut [0.0; 9 * 105],
-        ids: &mut [0; 6 * 1000],
-        floats: &mut [0.0; 6 * 1000],
-        deleted: &mut [0; 1000],
-        edges: &mut [Edge::default(); 206],
-        heap_ids: &mut [0; 1000],
-        heap_keys: &mut [0.0; 1000],
-        pending: &mut [0; 2 * 206],
-    };
+fn answer(first: &Hull, second: &Hull, stores: &mut OwnedStores) -> Answer {
     let pose = Pose {
         rotation: [0.0, 0.0, 0.0, 1.0],
         translation: vector(second.place),
@@ -121,7 +113,7 @@ fn answer(first: &Hull, second: &Hull) -> Answer {
         start,
         f32::MAX,
         true,
-        &mut stores,
+        stores.lend(),
     )
 }
 
@@ -135,14 +127,15 @@ struct Counts {
 
 fn count(random: &mut Random, kinds: [Kind; 2], size: usize, pairs: u64) -> Counts {
     let mut counts = Counts::default();
+    let mut stores = OwnedStores::new(PROGRAM);
     for _ in 0..pairs {
         let first = hull(random, kinds[0], size, [0; 3]);
         let place = corner(random, size);
         let second = hull(random, kinds[1], size, place);
-        let a = answer(&first, &second);
+        let a = answer(&first, &second, &mut stores);
         let accepted =
             certify(&first.corners, &second.corners, propose(a.normal)) == Certificate::Accepted;
-        if a.outcome == 0 {
+        if a.outcome == Outcome::ClosestPoints {
             counts.apart += 1;
             counts.accepted += u64::from(accepted);
         } else {

@@ -1,6 +1,6 @@
 -- How shapes, answers and verdicts go over to another language. Definitions only.
-use mathlib.Core.Bool.{cond}
-use Prim.Native.Nat.{ℕ, _+_}
+use mathlib.Core.Bool.{cond, _||_}
+use Prim.Native.Nat.{ℕ}
 use lib.Dec.{eqb}
 use Rattle.vector.specs.declared.vec3.Vec3.{Vec3}
 use Rattle.vector.specs.Vector.{zeroV}
@@ -8,7 +8,7 @@ use Rattle.shape.specs.declared.support.Shape.the-variants.{Ball, Cuboid, Capsu
 use Rattle.lines.specs.declared.line.Counts as Told
 use Rattle.lines.specs.declared.line.Outcome.{Outcome}
 use Rattle.lines.specs.declared.line.Outcome.the-variants.{ClosestPoints, Proximity, NoIntersection, Penetration, NoAnswer, Panic, NoPlace}
-use Rattle.lines.specs.Lines.{outcomeNumber}
+use Rattle.lines.specs.Lines.{letterOf}
 use Rattle.vote.specs.declared.Answer.{Answer}
 use Rattle.vote.specs.declared.Counts.{Counts}
 use Rattle.vote.specs.declared.Verdict.{Verdict}
@@ -39,23 +39,32 @@ countsOf c = record { expansions = c .expansions; made = c .made; live = c .live
 abbrev pub noCounts : Counts
 noCounts = record { expansions = 0; made = 0; live = 0; edges = 0; missed = 0 }
 
--- the refusal of document 01's number, after the four answers
-abbrev pub refusedAs : ℕ → Counts → Answer
-refusedAs number c = answerWith (3 + number) zeroV zeroV zeroV c
+-- the values of an outcome under its letter; a direction alone stands where the normal does
+abbrev pub under : ℕ → Outcome → Answer
+under letter (ClosestPoints a b n) = answerWith letter a b n noCounts
+under letter (Proximity n) = answerWith letter zeroV zeroV n noCounts
+under letter (NoIntersection n) = answerWith letter zeroV zeroV n noCounts
+under letter (Penetration a b n c) = answerWith letter a b n (countsOf c)
+under letter (NoAnswer c) = answerWith letter zeroV zeroV zeroV (countsOf c)
+under letter Panic = answerWith letter zeroV zeroV zeroV noCounts
+under letter (NoPlace c) = answerWith letter zeroV zeroV zeroV (countsOf c)
 
--- the place of the letter in D M S P N X R; a direction alone stands where the normal does
 unfoldable pub answerOf : Outcome → Answer
-answerOf (ClosestPoints a b n) = answerWith 0 a b n noCounts
-answerOf (Proximity n) = answerWith 1 zeroV zeroV n noCounts
-answerOf (NoIntersection n) = answerWith 2 zeroV zeroV n noCounts
-answerOf (Penetration a b n c) = answerWith 3 a b n (countsOf c)
-answerOf (NoAnswer c) = refusedAs (outcomeNumber (NoAnswer c)) (countsOf c)
-answerOf Panic = refusedAs (outcomeNumber Panic) noCounts
-answerOf (NoPlace c) = refusedAs (outcomeNumber (NoPlace c)) (countsOf c)
+answerOf o = under (letterOf o) o
 
--- a kind above 3: refusal 4
+-- a kind above 3: refusal 4, with the first letter of the line `bad`, as a capital
 unfoldable pub malformed : Answer
-malformed = refusedAs 4 noCounts
+malformed = answerWith 66 zeroV zeroV zeroV noCounts
+
+-- Document 01's number of an answer, by its letter: 0 of D, M, S and P, 1 of N, 2 of X, 3 of R, 4 of B. What is no letter is the answer of no channel, as are the zeros
+-- that a vote gives where no two agree: 5.
+unfoldable pub numberOf : ℕ → ℕ
+numberOf letter =
+    cond (eqb letter 68 || eqb letter 77 || eqb letter 83 || eqb letter 80) 0
+    (cond (eqb letter 78) 1
+    (cond (eqb letter 88) 2
+    (cond (eqb letter 82) 3
+    (cond (eqb letter 66) 4 5))))
 
 -- the odd channel's number, 0 where there is none or no two agree
 abbrev pub oddOf : Verdict → ℕ

@@ -89,30 +89,30 @@ fn no_counts() -> Counts
     }
 }
 
-// A direction alone stands where the normal does.
+// The letter of the outcome's line, and its values. A direction alone stands where the normal does.
 pub fn answer_of(outcome: Outcome) -> Answer
     ensures { λ r. ⌜ r ≡ answerOf outcome ⌝ }
 {
     let zero = Vec3::ZERO;
     match outcome {
-        Outcome::ClosestPoints(a, b, n) => answer_with(0, a, b, n, no_counts()),
-        Outcome::Proximity(n) => answer_with(1, zero, zero, n, no_counts()),
-        Outcome::NoIntersection(n) => answer_with(2, zero, zero, n, no_counts()),
-        Outcome::Penetration(a, b, n, c) => answer_with(3, a, b, n, counts_of(c)),
-        Outcome::NoAnswer(c) => answer_with(4, zero, zero, zero, counts_of(c)),
-        Outcome::Panic => answer_with(5, zero, zero, zero, no_counts()),
-        Outcome::NoPlace(c) => answer_with(6, zero, zero, zero, counts_of(c)),
+        Outcome::ClosestPoints(a, b, n) => answer_with(b'D', a, b, n, no_counts()),
+        Outcome::Proximity(n) => answer_with(b'M', zero, zero, n, no_counts()),
+        Outcome::NoIntersection(n) => answer_with(b'S', zero, zero, n, no_counts()),
+        Outcome::Penetration(a, b, n, c) => answer_with(b'P', a, b, n, counts_of(c)),
+        Outcome::NoAnswer(c) => answer_with(b'N', zero, zero, zero, counts_of(c)),
+        Outcome::Panic => answer_with(b'X', zero, zero, zero, no_counts()),
+        Outcome::NoPlace(c) => answer_with(b'R', zero, zero, zero, counts_of(c)),
     }
 }
 
-// The answer to a kind above 3, which no channel gives.
+// The answer to a kind above 3, with the first letter of the line `bad`; no channel gives it.
 pub fn malformed_answer() -> Answer
     ensures { λ r. ⌜ r ≡ malformed ⌝ }
 {
-    answer_with(7, Vec3::ZERO, Vec3::ZERO, Vec3::ZERO, no_counts())
+    answer_with(b'B', Vec3::ZERO, Vec3::ZERO, Vec3::ZERO, no_counts())
 }
 
-// The verdict of a vote; where no two agree, with zeros.
+// The verdict of a vote; where no two agree, with zeros, and 0 is no letter.
 pub fn voted_of(verdict: Verdict) -> Voted
     ensures { λ r. ⌜ r ≡ votedOf verdict ⌝ }
 {

@@ -1,6 +1,6 @@
 -- DEMAND 3 and the agreement of the embedded call: lent 105 vertices, 10,710 faces, 206 records and 10,710 heap entries it never answers refusal 3, and two calls on one record that do not, whatever
 -- their stores' lengths and former content, give one answer, so that three are voted one. By the channel over records. Any format. Assumes nothing.
-use mathlib.Core.Path.{_≡_, refl, ap, subst}
+use mathlib.Core.Path.{_≡_, _∙_, refl, ap, subst}
 use mathlib.Core.Bool.{Bool}
 use native.Mathlib.Omega.{arith}
 use lib.Ieee.{Float, Format}
@@ -11,6 +11,7 @@ use Rattle.epa_polytope.specs.Bounds.{Ample}
 use Rattle.epa_lent.specs.Lent.{onFirst}
 use Rattle.lines.specs.declared.line.Outcome.{Outcome}
 use Rattle.lines.specs.declared.line.Outcome.the-variants.{ClosestPoints, Proximity, NoIntersection, Penetration, NoAnswer, Panic, NoPlace}
+use Rattle.lines.specs.Lines.{outcomeNumber}
 use Rattle.channel.specs.Channel as Channel
 use Rattle.channel_lent.proofs.Ample.{ample-separatedRecords, records-agree}
 use Rattle.vote.specs.declared.Answer.{Answer}
@@ -19,11 +20,12 @@ use Rattle.vote.specs.Vote.{voteOf}
 use Rattle.vote.proofs.Laws.{three-same}
 use Rattle.answers.specs.declared.MaybeShape.{MaybeShape}
 use Rattle.answers.specs.declared.MaybeShape.the-variants.{Some, None}
-use Rattle.answers.specs.Answers.{answerOf, malformed}
+use Rattle.answers.specs.Answers.{answerOf, malformed, numberOf}
+use Rattle.answers.proofs.Numbers.{number-told}
 use Rattle.embedding.specs.Embedding.{ran, Placed}
 
 placed-answer : (o : Outcome) → Channel.Placed o → Placed (answerOf o)
-unfolding answerOf
+unfolding answerOf numberOf
 placed-answer (ClosestPoints a b n) p e = omega arith
 placed-answer (Proximity n) p e = omega arith
 placed-answer (NoIntersection n) p e = omega arith
@@ -33,8 +35,7 @@ placed-answer Panic p e = omega arith
 placed-answer (NoPlace c) p e = p c refl
 
 answer-placed : (o : Outcome) → Placed (answerOf o) → Channel.Placed o
-unfolding answerOf
-answer-placed o p c e = p (ap (λ (x : Outcome). answerOf x .outcome) e)
+answer-placed o p c e = p (number-told o ∙ ap outcomeNumber e)
 
 module _ (f : Format) (m : Pose) (dir : Vec3) (maxDist : Float) (exact : Bool) where
   -- the embedded call's answer over lists that are lent with the edges as records
@@ -43,7 +44,7 @@ module _ (f : Format) (m : Pose) (dir : Vec3) (maxDist : Float) (exact : Bool) w
 
   -- NEVER REFUSAL 3, with room that suffices
   pub ample-ran : (x1 x2 : MaybeShape) (l : Lists) → Ample l → Placed (called x1 x2 l)
-  unfolding malformed
+  unfolding malformed numberOf
   ample-ran (Some g1) (Some g2) l room = placed-answer _ (ample-separatedRecords f m g1 g2 dir maxDist exact l room)
   ample-ran (Some g1) None l room = λ e. omega arith
   ample-ran None x2 l room = λ e. omega arith

@@ -1,7 +1,6 @@
 -- The channel's run for a caller in another language: its answer as a record, and the lists that it leaves. Any format. Definitions only.
 use mathlib.Core.Path.{_≡_}
 use mathlib.Core.Bool.{Bool}
-use Prim.Native.Nat.{_+_}
 use lib.Ieee.{Float, Format}
 use Rattle.vector.specs.declared.vec3.Vec3.{Vec3}
 use Rattle.vector.specs.declared.pose.Pose.{Pose}
@@ -11,7 +10,7 @@ use Rattle.channel.specs.Channel.{separated}
 use Rattle.vote.specs.declared.Answer.{Answer}
 use Rattle.answers.specs.declared.MaybeShape.{MaybeShape}
 use Rattle.answers.specs.declared.MaybeShape.the-variants.{Some, None}
-use Rattle.answers.specs.Answers.{answerOf, malformed}
+use Rattle.answers.specs.Answers.{answerOf, malformed, numberOf}
 
 -- the channel's answer, or the malformed one with the lists as they were lent
 abbrev pub ran : Format → Pose → MaybeShape → MaybeShape → Vec3 → Float → Bool → Lists → Final Answer
@@ -19,6 +18,6 @@ ran f m (Some g1) (Some g2) dir maxDist exact l = answered answerOf (separated f
 ran f m (Some g1) None dir maxDist exact l = final malformed l
 ran f m None x dir maxDist exact l = final malformed l
 
--- an answer that is not refused for room: refusal 3 goes over as the outcome 3 + 3
+-- an answer that is not refused for room, refusal 3
 abbrev pub Placed : Answer → Type 0
-Placed x = x .outcome ≡ 3 + 3 → ⊥
+Placed x = numberOf (x .outcome) ≡ 3 → ⊥

@@ -6,7 +6,7 @@ ghost use Rattle.vote.specs.Vote.{voteOf};
 ghost use Rattle.edges.specs.Edges.{Whole};
 ghost use Rattle.epa.specs.Final.{Ends, allLent};
 ghost use Rattle.epa_lent.specs.Lent.{either, rowLent, recordsLent, onFirst};
-ghost use Rattle.answers.specs.Answers.{shapeOf, votedOf};
+ghost use Rattle.answers.specs.Answers.{shapeOf, votedOf, numberOf};
 ghost use Rattle.embedding.specs.Embedding.{ran};
 
 mod certify;
@@ -167,4 +167,20 @@ pub extern "C" fn separation_vote(a: Answer, b: Answer, c: Answer) -> Voted
     ensures { λ r. ⌜ r ≡ votedOf (voteOf binary32 a b c) ⌝ }
 {
     voted_of(vote::vote(a, b, c))
+}
+
+// Document 01's number of an answer, by its outcome: 0 of D, M, S and P, 1 to 3 of the refusals, 4 of a malformed record, and 5 of
+// what is no letter, as the zeros that a vote gives where no two agree.
+#[no_mangle]
+pub extern "C" fn separation_number(outcome: u8) -> u32
+    ensures { λ r. ⌜ r ≡ numberOf outcome ⌝ }
+{
+    match outcome {
+        b'D' | b'M' | b'S' | b'P' => 0,
+        b'N' => 1,
+        b'X' => 2,
+        b'R' => 3,
+        b'B' => 4,
+        _ => 5,
+    }
 }

@@ -21,7 +21,7 @@ pub struct Counts {
 // What a channel answers. Floats and counts that the outcome hasn't got are zero.
 #[repr(C)]
 pub struct Answer {
-    // the place of its letter in D M S P N X R
+    // its letter, of D M S P N X R; the vote asks only whether two are the same
     pub outcome: u8,
     pub point1: Vec3,
     pub point2: Vec3,

@@ -1,0 +1,2 @@
+-- Document 01's number of an answer.
+pub mod Numbers
