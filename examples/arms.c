@@ -7,13 +7,18 @@
 
 SEPARATION_STATIC_STORES(stores, PROGRAM);
 
-static separation_answer run(float along_x)
+static separation_answer run_on(float along_x, const separation_stores *lent)
 {
     separation_shape upper = {SEPARATION_CAPSULE, {0, 0, -1}, {0, 0, 1}, {0.25f, 0, 0}};
     separation_shape lower = {SEPARATION_CUBOID, {0.5f, 0.25f, 1}, {0, 0, 0}, {0, 0, 0}};
     separation_pose pose = {0, 0, 0, 1, {along_x, 0, 0.5f}};
     separation_vector dir = {1, 0, 0};
-    return separation_run_on(pose, upper, lower, dir, 10, true, &stores);
+    return separation_run_on(pose, upper, lower, dir, 10, true, lent);
+}
+
+static separation_answer run(float along_x)
+{
+    return run_on(along_x, &stores);
 }
 
 static void print_vector(separation_vector v)
@@ -68,14 +73,19 @@ static bool votes_well(separation_answer apart, separation_answer meet)
         && names(2, plus, minus, plus) && declines(none, plus, minus);
 }
 
-/* A shape of no kind is malformed, without a store too. */
+/* Only where the links meet is a store asked for. */
+static bool asks_for_room(separation_answer apart)
+{
+    separation_stores none = {NULL, 0, NULL, 0, NULL, 0, NULL, 0, NULL, 0, NULL, 0, NULL, 0, NULL, 0};
+    return names(0, apart, run_on(1, &none), apart) && run_on(0.5f, &none).outcome == SEPARATION_NO_ROOM;
+}
+
 static bool refuses_kind_4(void)
 {
-    separation_shape none = {4, {0, 0, 0}, {0, 0, 0}, {0, 0, 0}};
+    separation_shape no_shape = {4, {0, 0, 0}, {0, 0, 0}, {0, 0, 0}};
     separation_pose pose = {0, 0, 0, 1, {0, 0, 0}};
     separation_vector dir = {1, 0, 0};
-    separation_stores no_stores = {NULL, 0, NULL, 0, NULL, 0, NULL, 0, NULL, 0, NULL, 0, NULL, 0, NULL, 0};
-    separation_answer answer = separation_run_on(pose, none, none, dir, 10, true, &no_stores);
+    separation_answer answer = separation_run_on(pose, no_shape, no_shape, dir, 10, true, &stores);
     return answer.outcome == SEPARATION_MALFORMED && separation_number(answer.outcome) == 4;
 }
 
@@ -89,5 +99,5 @@ int main(void)
     print_answer(1, apart);
     print_answer(2, meet);
     printf("cases 2\n");
-    return votes_well(apart, meet) && refuses_kind_4() ? 0 : 1;
+    return votes_well(apart, meet) && asks_for_room(apart) && refuses_kind_4() ? 0 : 1;
 }

@@ -116,10 +116,7 @@ enum separation_room {
     SEPARATION_PROGRAM_EDGES = 206,
     SEPARATION_PROGRAM_HEAP = 1000,
     SEPARATION_PROGRAM_PENDING = 206,
-};
-
-/* Elements of a record, where they are more than one. */
-enum separation_record {
+    /* elements of a record, where they are more than one */
     SEPARATION_VERTEX_FLOATS = 9,
     SEPARATION_FACE_IDS = 6,
     SEPARATION_FACE_FLOATS = 6,
@@ -166,7 +163,7 @@ typedef struct {
         SEPARATION_LENT(name##_deleted), SEPARATION_LENT(name##_edges), SEPARATION_LENT(name##_heap_ids), \
         SEPARATION_LENT(name##_heap_keys), SEPARATION_LENT(name##_pending)}
 
-/* Bytes of the stores of a room, PROGRAM or ENOUGH. */
+/* Bytes of the stores of a room: 95,372 of PROGRAM, 920,722 of ENOUGH. */
 #define SEPARATION_STORE_BYTES(room) \
     (sizeof(float) * SEPARATION_VERTEX_FLOATS * SEPARATION_##room##_VERTICES \
      + (sizeof(size_t) * SEPARATION_FACE_IDS + sizeof(float) * SEPARATION_FACE_FLOATS + 1) * SEPARATION_##room##_FACES \
