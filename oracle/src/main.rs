@@ -13,6 +13,7 @@ mod lines;
 mod order;
 mod published;
 mod random;
+mod reasons;
 mod run;
 mod smallest;
 mod stats;
@@ -24,14 +25,14 @@ use std::path::Path;
 use std::process::ExitCode;
 
 const USAGE: &str = "\
-oracle run|stats|stores|order [ROOM...]   a case file on standard input
-oracle edits                              a case file on standard input
+oracle run|reasons|stats|stores|order [ROOM...]   a case file on standard input
+oracle edits                                      a case file on standard input
 oracle order smallest
 oracle heap
-oracle gen FAMILY SEED COUNT              a case file on standard output
-oracle damage SEED COUNT FOLDER           a case file on standard input
-oracle casts gen FAMILY SEED COUNT        casts as words on standard output
-oracle casts run|ways                     casts as words on standard input
+oracle gen FAMILY SEED COUNT                      a case file on standard output
+oracle damage SEED COUNT FOLDER                   a case file on standard input
+oracle casts gen FAMILY SEED COUNT                casts as words on standard output
+oracle casts run|ways                             casts as words on standard input
 ROOM is vertices=N, edges=N, faces=N, heap=N or pending=N
 FAMILY is ordinary, grid, mixed, limits, bits, tiny, huge, touching, coincident, arms or all
 ";
@@ -95,6 +96,7 @@ fn command(words: &[&str]) -> io::Result<Option<()>> {
             };
             match *name {
                 "run" => run::run(input, &mut output, rooms)?,
+                "reasons" => reasons::reasons(input, &mut output, rooms)?,
                 "stats" => stats::stats(input, &mut output, rooms)?,
                 "stores" => stores::stores(input, &mut output, rooms)?,
                 "order" => order::order(input, &mut output, rooms)?,

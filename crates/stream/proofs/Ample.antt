@@ -15,7 +15,8 @@ use Rattle.epa_polytope.specs.Stores.{Lists}
 use Rattle.epa_polytope.specs.Bounds.{Ample}
 use Rattle.channel.specs.Channel.{Placed}
 use Rattle.channel.proofs.Ample.{ample-separated}
-use Rattle.stream.specs.Stream.{lineTold, caseOutcome, turnOf, mostRecords}
+use Rattle.stream.specs.Reading.{lineTold, mostRecords, readNext}
+use Rattle.stream.specs.Stream.{caseOutcome, turnOf}
 
 -- the record's outcome, whose line went out
 pub record Line (f : Format) (b : List ℕ) (at base number : ℕ) (o : List ℕ) (place next : ℕ) (l : Lists) : Type 0 where
@@ -25,7 +26,7 @@ pub record Line (f : Format) (b : List ℕ) (at base number : ℕ) (o : List ℕ
 
 pub ample-line : (f : Format) (b : List ℕ) (at base number : ℕ) (o : List ℕ) (place : ℕ) (c : Case) (next : ℕ) (l : Lists) → Ample l → number ≤ mostRecords → readCase f b at ≡ Whole c next
     → Line f b at base number o place next l
-unfolding turnOf
+unfolding turnOf readNext
 ample-line f b at base number o place c next l room few e = record {
   outcome = caseOutcome f c l .answer;
   told = rw (le-ltb _ _ few, e);

@@ -1,38 +1,33 @@
--- `answer_next` answers and leaves what the definition does, by its number and by what reading the record found. Assumes nothing.
+-- `answer_next` answers and leaves what the definition does, by what reading came to. Assumes nothing.
 use borrow.Author.Needs.{needs}
+use mathlib.Core.Path.{_∙_}
 use lib.Ieee.{binary32}
 use Rattle.epa_polytope.proofs.Doing.{place}
-use Rattle.stream.proofs.Turns.{all-read, whole, malformed, cut}
+use Rattle.stream.specs.Stream.{lineFor, turnOf}
+use Rattle.stream.proofs.Turns.{whole, none, lined}
 use Rattle.stream.proofs.answer_next.Statement.{statement}
 use Rattle.stream.proofs.answer_next.Tie as tie
-
-returns : tie.Need-returns
-returns c = all-read binary32 _ _ _ _ _ _ _ (c .if1 .taken)
 
 -- where the channel has answered, and what was read
 abbrev separated : tie.After-line-turn → tie.After-separate
 separated c = search
 
-abbrev read : tie.After-separate → tie.After-read-case
+abbrev read : tie.After-separate → tie.After-read-next
 read c = search
 
+same-length : tie.Need-same-length
+same-length c = place tie.After-write-line (search) .write-line .kept .0 ∙ read (separated (search)) .read-next .kept .1 .1 .1 .1 .0
+
+returns : tie.Need-returns
+unfolding turnOf
+returns c =
+    whole binary32 _ _ _ _ _ _ (lineFor binary32 _ _) _ (read (separated (search)) .read-next .ensures) (place tie.After-read (search) .read .given .1)
+    (lined binary32 _ _ _ _ _ (separated (search) .separate .ensures .0) (place tie.After-write-line (search) .write-line .ensures)) (c .line-turn .ensures)
+
 returns-2 : tie.Need-returns-2
-returns-2 c =
-    whole binary32 _ _ _ _ _ _ _ (place tie.Else1 (search) .if1 .left) (read (separated (search)) .read-case .ensures .0) (place tie.After-found (search) .found .given .1)
-    (separated (search) .separate .ensures .0) (place tie.After-write-line (search) .write-line .ensures) (c .line-turn .ensures)
-
-returns-3 : tie.Need-returns-3
-returns-3 c =
-    malformed binary32 _ _ _ _ _ _ _ (place tie.Else1 (search) .if1 .left) (place tie.After-read-case (search) .read-case .ensures .0) (place tie.After-write-bad (search) .write-bad .ensures)
-    (c .bad-turn .ensures) (place tie.After-found2 (search) .found2 .given .1) (place tie.After-offset-of (search) .offset-of .ensures)
-
-returns-4 : tie.Need-returns-4
-returns-4 c =
-    cut binary32 _ _ _ _ _ _ _ (place tie.Else1 (search) .if1 .left) (place tie.After-read-case (search) .read-case .ensures .0) (place tie.After-write-bad2 (search) .write-bad2 .ensures)
-    (c .bad-turn2 .ensures) (place tie.After-enum-told (search) .enum-told .given .1) (place tie.After-offset-of2 (search) .offset-of2 .ensures)
+unfolding turnOf
+returns-2 c = none binary32 _ _ _ _ _ _ (lineFor binary32 _ _) _ (place tie.After-read-next (search) .read-next .ensures) (place tie.After-read2 (search) .read2 .given .1)
 
 pub answer-next-spec : {M : Type 1} → statement M
-answer-next-spec = tie.close (tie.spec returns (λ c κs. tt) (λ c. search needs) (λ c κs. tt) (λ c κs. tt) (λ c κs. tt) (λ c. search needs) (λ c κs. tt) (λ c κs. tt) (λ c κs. tt)
-    (λ c. search needs) (λ c κs. tt) (λ c κs. tt) (λ c κs. tt)
-    (λ c. search) (λ c. search) (λ c. search) (λ c. search) (λ c. search) (λ c. search) (λ c. search) (λ c. search) (λ c. search) returns-2
-    (λ c. search) returns-3 (λ c. search) returns-4)
+answer-next-spec = tie.close (tie.spec (λ c κs. tt) (λ c. search needs) (λ c κs. tt) (λ c κs. tt) (λ c κs. tt) (λ c. search needs)
+    same-length (λ c. search) (λ c. search) (λ c. search) (λ c. search) (λ c. search) (λ c. search) (λ c. search) (λ c. search) returns (λ c. search) returns-2)
