@@ -16,7 +16,7 @@ use vector::Pose;
 use vector::Vec3;
 
 // A new simplex, reset to the support point of `dir`. It is a simplex, so that the reset is not refused.
-fn start_of(pos12: Pose, g1: Shape, g2: Shape, dir: Vec3) -> VoronoiSimplex
+pub fn start_of(pos12: Pose, g1: Shape, g2: Shape, dir: Vec3) -> VoronoiSimplex
     ensures { λ r. ⌜ r ≡ startOf binary32 pos12 g1 g2 dir ⌝ }
 {
     let first = shape::from_shapes(pos12, g1, g2, dir);
