@@ -1,0 +1,2 @@
+-- Laws of the definitions, for the proofs of this crate.
+pub mod Reading
