@@ -3,3 +3,6 @@ pub mod Placing
 pub mod Lengths
 pub mod Finding
 pub mod Turning
+pub mod Differ
+pub mod Letters
+pub mod Ticket

@@ -60,7 +60,7 @@ moved-at w k (Next.Whole c next) o l =
 moved-at w k (Next.Over t) o l = refl
 
 -- a place of the window, told from the file's start
-same-offset : (k p : ℕ) → offsetOf 0 (k + p) ≡ offsetOf k p
+pub same-offset : (k p : ℕ) → offsetOf 0 (k + p) ≡ offsetOf k p
 same-offset k p = ap (λ (n : ℕ). n % 2 ^ 64) (zero-add (k + p))
 
 module _ (f : Format) (front s behind : List ℕ) (at number : ℕ) (o : List ℕ) (place : ℕ) where
@@ -86,13 +86,13 @@ module _ (f : Format) (front s behind : List ℕ) (at number : ℕ) (o : List �
   moved-by CaseAnswer.Ended bytes h = bad-line (offsetOf 0 (length bytes)) (offsetOf k (length s)) (ap (offsetOf 0) (h refl) ∙ same-offset k (length s))
 
   -- the record that the window has is the file's
-  same-case : Holds → readCase f (front ++ (s ++ behind)) (k + at) ≡ movedCase k (readCase f s at)
+  pub same-case : Holds → readCase f (front ++ (s ++ behind)) (k + at) ≡ movedCase k (readCase f s at)
   same-case = ⊎-elim
       (λ fits. shifted-case f front (s ++ behind) at ∙ ap (movedCase k) (longer f s behind at (enough f s at fits)))
       (λ none. shifted-case f front (s ++ behind) at ∙ ap (λ (t : List ℕ). movedCase k (readCase f t at)) (ap (λ (t : List ℕ). s ++ t) none ∙ append-nil s))
 
   -- a record that ends with the window does so because the file does
-  same-end : Holds → readCase f s at ≡ CaseAnswer.Ended → length (front ++ (s ++ behind)) ≡ k + length s
+  pub same-end : Holds → readCase f s at ≡ CaseAnswer.Ended → length (front ++ (s ++ behind)) ≡ k + length s
   same-end = ⊎-elim
       (λ fits e. absurd (enough f s at fits e))
       (λ none e. ap (λ (t : List ℕ). length (front ++ t)) (ap (λ (t : List ℕ). s ++ t) none ∙ append-nil s) ∙ length-append front s)
