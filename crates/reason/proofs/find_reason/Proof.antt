@@ -10,7 +10,7 @@ use Rattle.reason.proofs.find_reason.Tie as tie
 returns : tie.Need-returns
 returns c =
     meets binary32 _ _ _ _ _ _ _ (place tie.After-start-of (search) .start-of .ensures) (place tie.After-closest-points (search) .closest-points .ensures .0)
-    (place tie.After-enum-told (search) .enum-told .given .1) (place tie.After-closest-points-plain (search) .closest-points-plain .ensures) (place tie.After-reason-of (search) .reason-of .ensures)
+    (place tie.After-enum-told (search) .enum-told .given .1) (place tie.After-closest-points-plain (search) .closest-points-plain .ensures .0) (place tie.After-reason-of (search) .reason-of .ensures)
 
 returns-2 : tie.Need-returns-2
 returns-2 c =
