@@ -19,6 +19,7 @@ mod smallest;
 mod stats;
 mod stores;
 
+use parry3d::query::epa::epa3_first::EPA as FirstEpa;
 use parry3d::query::epa::Rooms;
 use std::io::{self, Read};
 use std::path::Path;
@@ -27,6 +28,7 @@ use std::process::ExitCode;
 const USAGE: &str = "\
 oracle run|reasons|stats|stores|order [ROOM...]   a case file on standard input
 oracle edits                                      a case file on standard input
+oracle order lines                                a case file on standard input
 oracle order smallest
 oracle heap
 oracle gen FAMILY SEED COUNT                      a case file on standard output
@@ -90,6 +92,7 @@ fn command(words: &[&str]) -> io::Result<Option<()>> {
         ["edits"] => edits::edits(input, &mut output)?,
         ["heap"] => heap::heap(&mut output)?,
         ["order", "smallest"] => smallest::smallest(&mut output, channel::ROOMS)?,
+        ["order", "lines"] => run::run_by::<FirstEpa>(input, &mut output, channel::ROOMS)?,
         [name, sizes @ ..] => {
             let Some(rooms) = rooms(sizes) else {
                 return Ok(None);

@@ -7,7 +7,7 @@ use crate::casefile::{Next, Reader, Record};
 use crate::channel::Channel;
 use crate::lines;
 use parry3d::query::epa::epa3_plain::EPA;
-use parry3d::query::epa::Rooms;
+use parry3d::query::epa::{Polytope, Rooms};
 use std::io::{self, Read, Write};
 use std::thread;
 
@@ -37,7 +37,11 @@ fn read_batch(
 }
 
 /// The lines of some records, the first of which has number `number`.
-fn answer_part(channel: &mut Channel<EPA>, records: &[Record], mut number: u32) -> Vec<u8> {
+fn answer_part<P: Polytope>(
+    channel: &mut Channel<P>,
+    records: &[Record],
+    mut number: u32,
+) -> Vec<u8> {
     let mut text = Vec::new();
     for record in records {
         lines::push_line(&mut text, number, &channel.answer(record));
@@ -46,7 +50,11 @@ fn answer_part(channel: &mut Channel<EPA>, records: &[Record], mut number: u32) 
     text
 }
 
-fn answer_batch(channels: &mut [Channel<EPA>], batch: &[Record], number: u32) -> Vec<Vec<u8>> {
+fn answer_batch<P: Polytope + Send>(
+    channels: &mut [Channel<P>],
+    batch: &[Record],
+    number: u32,
+) -> Vec<Vec<u8>> {
     let part = batch.len().div_ceil(channels.len()).max(1);
     thread::scope(|scope| {
         let workers: Vec<_> = batch
@@ -65,9 +73,19 @@ fn answer_batch(channels: &mut [Channel<EPA>], batch: &[Record], number: u32) ->
     })
 }
 
+/// The lines that the program prints.
 pub fn run(input: impl Read, output: &mut impl Write, rooms: Rooms) -> io::Result<()> {
+    run_by::<EPA>(input, output, rooms)
+}
+
+/// The same by any copy of the polytope.
+pub fn run_by<P: Polytope + Send>(
+    input: impl Read,
+    output: &mut impl Write,
+    rooms: Rooms,
+) -> io::Result<()> {
     let cores = thread::available_parallelism().map_or(1, usize::from);
-    let mut channels: Vec<_> = (0..cores).map(|_| Channel::<EPA>::new(rooms)).collect();
+    let mut channels: Vec<_> = (0..cores).map(|_| Channel::<P>::new(rooms)).collect();
     let mut reader = Reader::new(input);
     let mut batch = Vec::with_capacity(BATCH);
     let mut finished: u32 = 0;
