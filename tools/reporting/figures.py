@@ -1,0 +1,71 @@
+"""What a report counts over the lines of a case file."""
+from collections import Counter
+
+from reporting.reading import Wrong, cases
+
+REFUSALS = "NXR"
+# The places of two counts in a line.
+EXPANSIONS, FACES_MADE = cases.COUNTS.index("expansions"), cases.COUNTS.index("faces made")
+
+
+class Extreme:
+    """The greatest, or least, value and the first record that has it."""
+
+    def __init__(self, better):
+        self.better = better
+        self.value = self.number = None
+
+    def note(self, value, number):
+        if self.value is None or self.better(value, self.value):
+            self.value, self.number = value, number
+
+
+class Figures:
+    def __init__(self, lines):
+        self.letters = Counter()
+        self.deepest = Extreme(float.__gt__)
+        self.nearest = Extreme(float.__lt__)
+        self.without_length = 0
+        self.refused = {letter: [] for letter in REFUSALS}
+        self.counts = {place: Counter() for place in (EXPANSIONS, FACES_MADE)}
+        self.greatest = {place: Extreme(int.__gt__) for place in self.counts}
+        for answer in lines:
+            self.note(answer)
+
+    def note(self, answer):
+        self.letters[answer.letter] += 1
+        if answer.letter in REFUSALS:
+            self.refused[answer.letter].append(answer.number)
+        if answer.letter in "DP":
+            self.note_length(answer)
+        if answer.counts:
+            for place, counter in self.counts.items():
+                counter[answer.counts[place]] += 1
+                self.greatest[place].note(answer.counts[place], answer.number)
+
+    def note_length(self, answer):
+        length = answer.length()
+        if length is None:
+            self.without_length += 1
+        else:
+            (self.nearest if answer.letter == "D" else self.deepest).note(length, answer.number)
+
+    def notable(self):
+        """The records that a reader will ask for first."""
+        extremes = [self.deepest, self.nearest, *self.greatest.values()]
+        return [extreme.number for extreme in extremes if extreme.number is not None]
+
+
+def reasons_of(text, lines):
+    """Why each run of the polytope ended, by record, from the lines of the program of ticket 5."""
+    reasons = {}
+    for line in text.splitlines():
+        number, _, reason = line.partition(" ")
+        if number == "bad":
+            continue
+        if not number.isdigit() or not reason:
+            raise Wrong(f"no line with a reason: {line[:80]!r}")
+        if not 1 <= int(number) <= len(lines) or lines.answer(int(number)).letter not in "PNXR":
+            raise Wrong(f"a reason for record {number}, which reached no polytope: the reasons are of another file")
+        reasons[int(number)] = reason
+    return reasons
