@@ -214,14 +214,13 @@
 
   // ---- what is said beside it
 
-  const lengthTold = (answer) => `${answer.letter === "P" ? "depth" : "distance"} ${answer.length}`;
-  const outcomeTold = (answer) => (answer.length ? lengthTold(answer) : data.letters[answer.letter][0]);
+  const outcomeTold = (answer) => answer.measured || data.letters[answer.letter][0];
 
   function answerTold(answer) {
     const [meaning, groups] = data.letters[answer.letter];
     const lines = [`${answer.name ? `${answer.name}: ` : ""}${answer.letter}, ${meaning}`];
     groups.forEach((name, i) => lines.push(`${name} ${answer.words.slice(3 * i, 3 * i + 3).join(" ")}`));
-    if (answer.length) lines.push(lengthTold(answer));
+    if (answer.measured) lines.push(answer.measured);
     answer.counts.forEach((count, i) => lines.push(`${data.counts[i]} ${count}`));
     return lines.join("\n");
   }

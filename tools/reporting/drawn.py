@@ -27,16 +27,12 @@ def drawing(normal):
     return DRAWING.replace("NORMAL", normal)
 
 
-def told_length(answer):
-    length = answer.length()
-    return None if length is None else f"{length:.6g}"
-
-
 def answer_data(answer, name=None):
-    return {"letter": answer.letter, "words": answer.words(), "counts": answer.counts, "length": told_length(answer), "name": name}
+    measured = answer.measure() and cases.measure_text(answer.measure(), answer.vectors())
+    return {"letter": answer.letter, "words": answer.words(), "counts": answer.counts, "measured": measured, "name": name}
 
 
 def page_data(records, first, missing):
     """`first` is the record that is drawn first, `missing` says how one that is not on the page gets there."""
-    letters = {letter: [meaning, groups] for letter, (meaning, groups, _) in cases.LETTERS.items()}
+    letters = {letter: [told.meaning, told.groups] for letter, told in cases.LETTERS.items()}
     return {"letters": letters, "counts": cases.COUNTS, "records": records, "first": first, "missing": missing}

@@ -1,4 +1,5 @@
 """What a report counts over the lines of a case file."""
+import math
 from collections import Counter
 
 from reporting.reading import Wrong, cases
@@ -25,7 +26,8 @@ class Figures:
         self.letters = Counter()
         self.deepest = Extreme(float.__gt__)
         self.nearest = Extreme(float.__lt__)
-        self.without_length = 0
+        self.measured = {"P": self.deepest, "D": self.nearest}
+        self.not_finite = 0
         self.refused = {letter: [] for letter in REFUSALS}
         self.counts = {place: Counter() for place in (EXPANSIONS, FACES_MADE)}
         self.greatest = {place: Extreme(int.__gt__) for place in self.counts}
@@ -36,19 +38,19 @@ class Figures:
         self.letters[answer.letter] += 1
         if answer.letter in REFUSALS:
             self.refused[answer.letter].append(answer.number)
-        if answer.letter in "DP":
-            self.note_length(answer)
+        if answer.letter in self.measured:
+            self.note_measured(answer)
         if answer.counts:
             for place, counter in self.counts.items():
                 counter[answer.counts[place]] += 1
                 self.greatest[place].note(answer.counts[place], answer.number)
 
-    def note_length(self, answer):
-        length = answer.length()
-        if length is None:
-            self.without_length += 1
+    def note_measured(self, answer):
+        value = answer.measure()(*answer.vectors())
+        if math.isfinite(value):
+            self.measured[answer.letter].note(value, answer.number)
         else:
-            (self.nearest if answer.letter == "D" else self.deepest).note(length, answer.number)
+            self.not_finite += 1
 
     def notable(self):
         """The records that a reader will ask for first."""

@@ -1,25 +1,14 @@
 """Case files and lines as the report reads them, by the tables and the decoder of tools/cases."""
 import array
-import importlib.machinery
-import importlib.util
-import math
-import pathlib
+import io
 import re
 import struct
 from collections import namedtuple
 
-ROOT = pathlib.Path(__file__).resolve().parent.parent.parent
+import modules
 
-
-def program_as_module(name):
-    """A tool that has no suffix, imported."""
-    loader = importlib.machinery.SourceFileLoader(name, str(ROOT / "tools" / name))
-    module = importlib.util.module_from_spec(importlib.util.spec_from_loader(name, loader))
-    loader.exec_module(module)
-    return module
-
-
-cases = program_as_module("cases")
+ROOT = modules.TOOLS.parent
+cases = modules.tool("cases")
 Wrong = cases.Wrong
 
 
@@ -32,7 +21,7 @@ REST = rb"%b{%d}[\x00-\x%02d]" % (NUMBER, sum(count for _, count in cases.PARTS)
 RECORD = re.compile(SHAPE + SHAPE + REST, re.DOTALL)
 
 
-class CaseFile:
+class Records:
     """The records of a case file; `flaw` says what is wrong with the bytes after the last, or is None."""
 
     def __init__(self, data):
@@ -48,36 +37,21 @@ class CaseFile:
         return len(self.places)
 
     def text(self, number):
-        """A record as tools/cases writes it, without the last empty line."""
-        return record_at(self.data, self.places[number - 1])[0]
+        """A record as tools/cases writes it."""
+        return text_at(self.data, self.places[number - 1])
 
 
-def floats_text(data, at, name, count):
-    words = [name]
-    for _ in range(count):
-        bits, at = cases.decoded(data, at)
-        words.append(cases.text_of(bits))
-    return " ".join(words), at
-
-
-def record_at(data, at):
-    """The text of the record at a place, and the place after it."""
-    lines = []
-    for _ in range(2):
-        kind, at = cases.small_at(data, at, cases.KINDS)
-        line, at = floats_text(data, at, *kind)
-        lines.append(line)
-    for part in cases.PARTS:
-        line, at = floats_text(data, at, *part)
-        lines.append(line)
-    flag, at = cases.small_at(data, at, cases.FLAGS)
-    return "\n".join(lines + [f"exact {flag}"]), at
+def text_at(data, at):
+    """The decoder's text of the record at a place."""
+    source = io.BytesIO(data)
+    source.seek(at)
+    return cases.record_text(cases.CaseFile(source, at))
 
 
 def flaw_at(data, at):
     """What the decoder says of a record that is none."""
     try:
-        record_at(data, at)
+        text_at(data, at)
     except Wrong as wrong:
         return str(wrong)
     raise Wrong(f"the record at byte {at} is read in two ways")
@@ -87,9 +61,9 @@ def flaw_at(data, at):
 
 
 def line_pattern(letter):
-    _, groups, has_counts = cases.LETTERS[letter]
-    counts = rf"((?: \d+){{{len(cases.COUNTS)}}})" if has_counts else "()"
-    return re.compile(rf"(\d+) {letter}((?: [0-9A-F]{{8}}){{{3 * len(groups)}}}){counts}")
+    told = cases.LETTERS[letter]
+    counts = rf"((?: \d+){{{len(cases.COUNTS)}}})" if told.has_counts else "()"
+    return re.compile(rf"(\d+) {letter}((?: [0-9A-F]{{8}}){{{3 * len(told.groups)}}}){counts}")
 
 
 PATTERNS = {letter: line_pattern(letter) for letter in cases.LETTERS}
@@ -102,13 +76,9 @@ class Answer(namedtuple("Answer", "number letter bits counts")):
         floats = struct.unpack(f">{len(self.bits) // 4}f", self.bits)
         return [floats[i : i + 3] for i in range(0, len(floats), 3)]
 
-    def length(self):
-        """From point 1 to point 2: the distance of a D, the depth of a P. None where there are no points or not in finite numbers."""
-        vectors = self.vectors()
-        if len(vectors) < 3:
-            return None
-        length = math.dist(vectors[0], vectors[1])
-        return length if math.isfinite(length) else None
+    def measure(self):
+        """What is measured of such a line, or None."""
+        return cases.LETTERS[self.letter].measure
 
     def words(self):
         """The floats as decimals."""

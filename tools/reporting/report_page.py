@@ -24,6 +24,7 @@ CARRIES = {
     "R": "refusal 3: a lent store was full",
 }
 REFUSAL = {"N": "1", "X": "2", "R": "3"}
+MEASURED = "The depth is how far point 1 lies beyond point 2 along the normal, the distance the length from point 1 to point 2, in the units of the file."
 
 
 def head(case_file, lines):
@@ -37,7 +38,7 @@ def head(case_file, lines):
 
 def answers(figures, total):
     rows = [
-        (code(letter), cases.LETTERS[letter][0], CARRIES[letter], count(figures.letters[letter]), share(figures.letters[letter], total))
+        (code(letter), cases.LETTERS[letter].meaning, CARRIES[letter], count(figures.letters[letter]), share(figures.letters[letter], total))
         for letter in cases.LETTERS
     ]
     return section("Answers", table("Records per letter", ("letter", "answer", "what it carries", "records", "share"), rows, {3, 4}))
@@ -51,17 +52,17 @@ def extreme_row(name, extreme, told):
 
 def extremes(figures):
     rows = [
-        extreme_row("deepest penetration (P)", figures.deepest, "{:.6g}".format),
-        extreme_row("least distance (D)", figures.nearest, "{:.6g}".format),
+        extreme_row("deepest penetration (P)", figures.deepest, cases.nine_digits),
+        extreme_row("least distance (D)", figures.nearest, cases.nine_digits),
         extreme_row("most expansions", figures.greatest[EXPANSIONS], count),
         extreme_row("most faces made", figures.greatest[FACES_MADE], count),
     ]
     parts = [
         table("Each with the first record that has it", ("", "value", "record"), rows, {1, 2}),
-        paragraph("Depth and distance are the length from point 1 to point 2, in the units of the file.", "note"),
+        paragraph(MEASURED, "note"),
     ]
-    if figures.without_length:
-        parts.append(paragraph(f"{count(figures.without_length)} records with points that are not finite are left out of the first two.", "note"))
+    if figures.not_finite:
+        parts.append(paragraph(f"{count(figures.not_finite)} records whose points or normal are not finite are left out of the first two.", "note"))
     return section("Extremes", *parts)
 
 
