@@ -123,7 +123,8 @@ fn put_counts(out: &mut [u8], at: usize, outcome: Outcome) -> usize
 
 // ---- lines
 
-fn letter(outcome: Outcome) -> u8
+// The letter that a record's line has.
+pub fn letter(outcome: Outcome) -> u8
     ensures { λ r. ⌜ r ≡ letterOf outcome ⌝ }
 {
     match outcome {

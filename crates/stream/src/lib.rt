@@ -12,7 +12,7 @@ use window::bad_turn;
 use window::line_turn;
 
 // Document 01: after so many records a run stops as at the file's end.
-const MOST_RECORDS: u64 = 4_294_967_295;
+pub const MOST_RECORDS: u64 = 4_294_967_295;
 
 // What reading comes to.
 pub enum Next {

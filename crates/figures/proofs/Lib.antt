@@ -1,0 +1,5 @@
+-- Laws of the definitions, for the proofs of this crate, and what the figures are.
+pub mod Placing
+pub mod Turns
+pub mod Counting
+pub mod Folds
