@@ -11,7 +11,8 @@ use Rattle.lines.specs.declared.line.Outcome.{Outcome}
 use Rattle.epa_polytope.specs.Stores.{Lists}
 use Rattle.epa.specs.Final.{Final, final, answered}
 use Rattle.window.specs.Window.{offsetOf}
-use Rattle.stream.specs.Stream.{caseOutcome, mostRecords}
+use Rattle.stream.specs.Reading.{mostRecords}
+use Rattle.stream.specs.Stream.{caseOutcome}
 use Rattle.figures.specs.declared.sums.Figures.{Figures}
 use Rattle.figures.specs.declared.turn.Reckoned.{Reckoned}
 use Rattle.figures.specs.declared.turn.Reckoned.the-variants.{Counted, End, Malformed, TooMany}

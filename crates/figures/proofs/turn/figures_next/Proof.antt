@@ -32,7 +32,7 @@ first c = search
 returns-3 : tie.Need-returns-3
 returns-3 c =
     whole binary32 _ _ _ _ _ _ (first (second (read (separated (search)))) .if1 .left) (second (read (separated (search))) .if2 .left) (read (separated (search)) .read-case .ensures .0)
-    (known (separated (search)) .found .given .1) (separated (search) .separate .ensures) (place tie.After-counted (search) .counted .ensures)
+    (known (separated (search)) .found .given .1) (separated (search) .separate .ensures .0) (place tie.After-counted (search) .counted .ensures)
 
 returns-4 : tie.Need-returns-4
 returns-4 c =
