@@ -1,11 +1,9 @@
 //! `damage`: damaged copies of a case file, each beside what must be printed for it.
 //!
-//! Copy n of the folder is `n.case`, the lines for it are `n.lines`. Up to three times a copy is
-//! cut, or gets some of its bytes changed, put in, or taken out.
+//! Copy n of the folder is `n.case`, the lines for it are `n.lines`, as `run` or `reasons` prints
+//! them. Up to three times a copy is cut, or gets some of its bytes changed, put in, or taken out.
 
 use crate::random::Random;
-use crate::run;
-use parry3d::query::epa::Rooms;
 use std::fs;
 use std::io;
 use std::path::Path;
@@ -41,12 +39,13 @@ fn damage_once(random: &mut Random, copy: &mut Vec<u8>) {
     }
 }
 
+/// `print` writes the lines of a case file.
 pub fn damage(
     original: &[u8],
     folder: &Path,
     seed: u64,
     count: u64,
-    rooms: Rooms,
+    print: impl Fn(&[u8], &mut Vec<u8>) -> io::Result<()>,
 ) -> io::Result<()> {
     fs::create_dir_all(folder)?;
     let mut random = Random::new(seed);
@@ -56,7 +55,7 @@ pub fn damage(
             damage_once(&mut random, &mut copy);
         }
         let mut lines = Vec::new();
-        run::run(copy.as_slice(), &mut lines, rooms)?;
+        print(&copy, &mut lines)?;
         fs::write(folder.join(format!("{number}.case")), &copy)?;
         fs::write(folder.join(format!("{number}.lines")), &lines)?;
     }

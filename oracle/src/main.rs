@@ -32,7 +32,7 @@ oracle order lines                                a case file on standard input
 oracle order smallest
 oracle heap
 oracle gen FAMILY SEED COUNT                      a case file on standard output
-oracle damage SEED COUNT FOLDER                   a case file on standard input
+oracle damage run|reasons SEED COUNT FOLDER       a case file on standard input
 oracle casts gen FAMILY SEED COUNT                casts as words on standard output
 oracle casts run|ways                             casts as words on standard input
 ROOM is vertices=N, edges=N, faces=N, heap=N or pending=N
@@ -72,13 +72,22 @@ fn command(words: &[&str]) -> io::Result<Option<()>> {
             let known = generate::generate(&mut output, family, seed, count)?;
             return Ok(known.then_some(()));
         }
-        ["damage", seed, count, folder] => {
+        ["damage", name @ ("run" | "reasons"), seed, count, folder] => {
             let (Ok(seed), Ok(count)) = (seed.parse(), count.parse()) else {
                 return Ok(None);
             };
             let mut original = Vec::new();
             input.read_to_end(&mut original)?;
-            damage::damage(&original, Path::new(folder), seed, count, channel::ROOMS)?;
+            damage::damage(
+                &original,
+                Path::new(folder),
+                seed,
+                count,
+                |copy, lines| match *name {
+                    "run" => run::run(copy, lines, channel::ROOMS),
+                    _ => reasons::reasons(copy, lines, channel::ROOMS),
+                },
+            )?;
         }
         ["casts", "gen", family, seed, count] => {
             let (Ok(seed), Ok(count)) = (seed.parse(), count.parse()) else {

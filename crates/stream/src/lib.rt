@@ -25,7 +25,14 @@ pub enum Next {
 // The record at the place `at` of the bytes, whose first has the offset `base` in the file, is read. Where it is malformed
 // or cut off, `bad` goes to the places of `out` from `place` on. The bytes are the file's rest, or at least 160 from `at` on:
 // then the turn is the whole file's (law `window-turn`).
-pub fn read_next(bytes: &[u8], at: usize, base: u64, number: u64, out: &mut [u8], place: usize) -> Next
+pub fn read_next(
+    bytes: &[u8],
+    at: usize,
+    base: u64,
+    number: u64,
+    out: &mut [u8],
+    place: usize,
+) -> Next
     ensures { λ r. ⌜ read r (now (out .exit)) ≡ readNext binary32 (now (bytes .entry)) at base number (now (out .entry)) place ⌝ }
 {
     if MOST_RECORDS < number {
