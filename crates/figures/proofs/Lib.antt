@@ -3,3 +3,7 @@ pub mod Placing
 pub mod Turns
 pub mod Counting
 pub mod Folds
+pub mod Fitting
+pub mod Expansions
+pub mod Greatest
+pub mod Windows
