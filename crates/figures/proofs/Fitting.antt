@@ -11,7 +11,7 @@ use lib.ListN.{length}
 use Rattle.lines.specs.declared.line.Outcome.{Outcome}
 use Rattle.lines.specs.declared.line.Outcome.the-variants.{ClosestPoints, Proximity, NoIntersection, Penetration, NoAnswer, Panic, NoPlace}
 use Rattle.lines.specs.Lines.{letterOf}
-use Rattle.stream.specs.Stream.{mostRecords}
+use Rattle.stream.specs.Reading.{mostRecords}
 use Rattle.figures.specs.declared.sums.Figures.{Figures}
 use Rattle.figures.specs.Figures.{plus, tallied, lettersWith, withLetter, withCounts, carrying, afterOutcome, figuresFrom, figuresOf, noFigures}
 use Rattle.figures.specs.Exact.{carries, expansionsOf, ofLetter, sumOf, Few, Summed}

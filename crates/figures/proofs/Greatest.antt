@@ -11,7 +11,7 @@ use lib.ListN.{length, length-append}
 use borrow.Author.Tests.{eq-eqb, ne-eqb, ltb-true, ltb-false}
 use Rattle.lines.specs.declared.line.Outcome.{Outcome}
 use Rattle.lines.specs.declared.line.Outcome.the-variants.{ClosestPoints, Proximity, NoIntersection, Penetration, NoAnswer, Panic, NoPlace}
-use Rattle.stream.specs.Stream.{mostRecords}
+use Rattle.stream.specs.Reading.{mostRecords}
 use Rattle.figures.specs.declared.sums.Figures.{Figures}
 use Rattle.figures.specs.Figures.{beats, withLetter, withCounts, afterOutcome, figuresOf}
 use Rattle.figures.specs.Exact.{carries, madeOf, sumOf, Fewer, AtMost, First, GreatestFirst}

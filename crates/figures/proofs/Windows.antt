@@ -16,7 +16,7 @@ use Rattle.casefile.proofs.Shifts.{movedCase}
 use Rattle.epa_polytope.specs.Stores.{Lists}
 use Rattle.epa.specs.Final.{Final, final, answered}
 use Rattle.window.specs.Window.{offsetOf}
-use Rattle.stream.specs.Stream.{mostRecords}
+use Rattle.stream.specs.Reading.{mostRecords}
 use Rattle.stream.proofs.Windows.{Holds, same-case, same-end, same-offset}
 use Rattle.figures.specs.declared.sums.Figures.{Figures}
 use Rattle.figures.specs.declared.turn.Reckoned.{Reckoned}
@@ -39,7 +39,7 @@ module _ (f : Format) (front s behind : List ℕ) (at number : ℕ) (g : Figures
 
   -- the window holds what decides the record, as for `stream`
   abbrev pub Held : Type 0
-  Held = Holds f front s behind at number [] 0 l
+  Held = Holds f front s behind at number [] 0
 
   by-case : (x : CaseAnswer) (bytes : List ℕ) → (x ≡ CaseAnswer.Ended → length bytes ≡ k + length s)
       → reckonBy f (movedCase k x) bytes 0 number g l ≡ answered (movedReckoned k) (reckonBy f x s k number g l)
@@ -64,8 +64,8 @@ module _ (f : Format) (front s behind : List ℕ) (at number : ℕ) (g : Figures
   pub window-reckoned : Held → reckonOf f whole (k + at) 0 number g l ≡ answered (movedReckoned k) (reckonOf f s at k number g l)
   unfolding reckonOf
   window-reckoned h =
-      let one = by-case (readCase f s at) whole (same-end f front s behind at number [] 0 l h) in
-      let read = ap (λ (x : CaseAnswer). reckonBy f x whole 0 number g l) (same-case f front s behind at number [] 0 l h) ∙ one in
+      let one = by-case (readCase f s at) whole (same-end f front s behind at number [] 0 h) in
+      let read = ap (λ (x : CaseAnswer). reckonBy f x whole 0 number g l) (same-case f front s behind at number [] 0 h) ∙ one in
       let few = pick (ltb mostRecords number) (final TooMany l) _ (final TooMany l) _ refl read in
       ap (λ (t : Bool). cond t (final End l) (cond (ltb mostRecords number) (final TooMany l) (reckonBy f (readCase f whole (k + at)) whole 0 number g l))) (ends-at (leb (length s) at) refl h)
       ∙ pick (leb (length s) at) (final End l) _ (final End l) _ refl few
