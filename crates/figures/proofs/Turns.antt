@@ -1,11 +1,14 @@
--- A turn's answer and stores: at the end of the bytes (`at-the-end`); after the last record that is read, where a byte more gives refusal 8 (`too-many`); up to it, by what reading
+-- A turn's answer and stores: at the end of the bytes (`at-the-end`); after the last record that is read, where a byte more gives refusal 8 (`too-many`), and nothing else does (`only-8`); up to it, by what reading
 -- the record found. Assumes nothing.
 use mathlib.Core.Path.{_≡_, refl, sym, ap, _∙_}
 use mathlib.Core.List.{List}
 use Prim.Native.Nat.{ℕ, _<_, _≤_}
 use lib.ListN.{length}
 use lib.Ieee.{Format}
-use borrow.Author.Tests.{lt-ltb, le-ltb, le-leb, lt-leb}
+use mathlib.Core.Bool.{Bool, true, false, cond}
+use native.Mathlib.Omega.{arith}
+use lib.Dec.{leb, ltb}
+use borrow.Author.Tests.{lt-ltb, le-ltb, le-leb, lt-leb, leb-false, ltb-true}
 use Rattle.casefile.specs.declared.records.Case.{Case}
 use Rattle.casefile.specs.declared.records.CaseAnswer.{CaseAnswer}
 use Rattle.casefile.specs.Records.{readCase}
@@ -19,7 +22,7 @@ use Rattle.figures.specs.declared.sums.Figures.{Figures}
 use Rattle.figures.specs.declared.turn.Reckoned.{Reckoned}
 use Rattle.figures.specs.declared.turn.Reckoned.the-variants.{Counted, End, Malformed, TooMany}
 use Rattle.figures.specs.Figures.{afterOutcome}
-use Rattle.figures.specs.Reckoning.{reckonBy, reckonOf}
+use Rattle.figures.specs.Reckoning.{reckonBy, reckonOf, reckonedNumber}
 
 module _ (f : Format) (s : List ℕ) (at base number : ℕ) (g : Figures) (l : Lists) where
   -- THE FILE'S END IS NO REFUSAL, whatever the number
@@ -36,6 +39,22 @@ module _ (f : Format) (s : List ℕ) (at base number : ℕ) (g : Figures) (l : L
   pub up-to-the-last : at < length s → number ≤ mostRecords → reckonOf f s at base number g l ≡ reckonBy f (readCase f s at) s base number g l
   unfolding reckonOf
   up-to-the-last h m = rw (lt-leb (length s) at h, le-ltb mostRecords number m)
+
+  -- REFUSAL 8 is given in no other case
+  not-8 : (x : CaseAnswer) → reckonedNumber (reckonBy f x s base number g l .answer) ≡ 8 → ⊥
+  not-8 (CaseAnswer.Whole c next) e = omega arith
+  not-8 (CaseAnswer.Malformed b) e = omega arith
+  not-8 CaseAnswer.Ended e = omega arith
+
+  by-tests : (t u : Bool) → leb (length s) at ≡ t → ltb mostRecords number ≡ u
+      → reckonedNumber (cond t (final End l) (cond u (final TooMany l) (reckonBy f (readCase f s at) s base number g l)) .answer) ≡ 8 → (at < length s) × (mostRecords < number)
+  by-tests true u p q e = absurd (omega arith)
+  by-tests false true p q e = (leb-false (length s) at p, ltb-true mostRecords number q)
+  by-tests false false p q e = absurd (not-8 (readCase f s at) e)
+
+  pub only-8 : reckonedNumber (reckonOf f s at base number g l .answer) ≡ 8 → (at < length s) × (mostRecords < number)
+  unfolding reckonOf
+  only-8 = by-tests (leb (length s) at) (ltb mostRecords number) refl refl
 
   module _ (some : at < length s) (within : number ≤ mostRecords) {found : CaseAnswer} (read : found ≡ readCase f s at) where
     by-found : (x : CaseAnswer) → found ≡ x → reckonBy f x s base number g l ≡ reckonOf f s at base number g l
