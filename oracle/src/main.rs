@@ -21,7 +21,7 @@ mod stores;
 
 use parry3d::query::epa::epa3_first::EPA as FirstEpa;
 use parry3d::query::epa::Rooms;
-use std::io::{self, Read};
+use std::io::{self, Read, Write};
 use std::path::Path;
 use std::process::ExitCode;
 
@@ -31,12 +31,12 @@ oracle edits                                      a case file on standard input
 oracle order lines                                a case file on standard input
 oracle order smallest
 oracle heap
+oracle families                                   the names that FAMILY can be, a line each
 oracle gen FAMILY SEED COUNT                      a case file on standard output
 oracle damage run|reasons SEED COUNT FOLDER       a case file on standard input
 oracle casts gen FAMILY SEED COUNT                casts as words on standard output
 oracle casts run|ways                             casts as words on standard input
 ROOM is vertices=N, edges=N, faces=N, heap=N or pending=N
-FAMILY is ordinary, grid, mixed, limits, bits, tiny, huge, touching, coincident, arms or all
 ";
 
 /// Status 2: the command line is wrong. Status 1: input or output failed, or `edits` found a
@@ -100,6 +100,7 @@ fn command(words: &[&str]) -> io::Result<Option<()>> {
         ["casts", "ways"] => casts::ways(input, &mut output)?,
         ["edits"] => edits::edits(input, &mut output)?,
         ["heap"] => heap::heap(&mut output)?,
+        ["families"] => families::names().try_for_each(|name| writeln!(output, "{name}"))?,
         ["order", "smallest"] => smallest::smallest(&mut output, channel::ROOMS)?,
         ["order", "lines"] => run::run_by::<FirstEpa>(input, &mut output, channel::ROOMS)?,
         [name, sizes @ ..] => {

@@ -26,14 +26,21 @@ pub const FAMILIES: [(&str, Family); 10] = [
     ("arms", arms::arms),
 ];
 
+const ANY: &str = "all";
+
 /// One record of any family.
 fn all(random: &mut Random) -> Record {
     let (_, family) = FAMILIES[random.below(FAMILIES.len())];
     family(random)
 }
 
+/// Every name that `by_name` knows.
+pub fn names() -> impl Iterator<Item = &'static str> {
+    std::iter::once(ANY).chain(FAMILIES.iter().map(|(name, _)| *name))
+}
+
 pub fn by_name(name: &str) -> Option<Family> {
-    if name == "all" {
+    if name == ANY {
         return Some(all);
     }
     let found = FAMILIES.iter().find(|(known, _)| *known == name);
