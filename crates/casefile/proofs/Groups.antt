@@ -3,6 +3,7 @@ use Prim.Native.Nat.{ℕ, zero, suc, _+_, _*_, _/_, _%_, _<_, _≤_}
 use mathlib.Core.Path.{_≡_, refl}
 use mathlib.Core.Bool.{Bool, true, false, cond}
 use mathlib.Core.List.{List, [], _∷_}
+use native.Mathlib.Nat.{add-assoc, mul-add, mul-assoc, mul-suc, mul-le-mul-left}
 use native.Mathlib.Numerals.{add-one}
 use native.Mathlib.Omega.{arith}
 use lib.ListN.{length, drop, getD, drop-of-length-le}
@@ -81,21 +82,38 @@ later-small (suc n) (b ∷ s) at =
     pick _ (eqb b 0) _ _ (λ e. tt)
     (λ e. pick _ (ltb b 128) _ _ (λ d. omega (arith, ltb-true b 128 d, some n)) (λ d. joined-small (limit n) (b % 128) (laterIn n s (at + 1)) (omega arith) (later-small n s (at + 1))))
 
-limit-three : (n : ℕ) → n ≤ 3 → limit n ≤ 0x200_0000
-limit-three zero h = omega arith
-limit-three (suc zero) h = omega arith
-limit-three (suc (suc zero)) h = omega arith
-limit-three (suc (suc (suc zero))) h = omega arith
-limit-three (suc (suc (suc (suc n)))) h = absurd (omega arith)
+-- ---- the groups before a later one: they give `value`, and the next counts `weight`
 
-wider : (m k : ℕ) (x : NumberAnswer) → m ≤ k → Below m x → Below k x
-wider m k (Read v next) h b = omega arith
-wider m k Bad h b = tt
-wider m k Ended h b = tt
+abbrev pub held : ℕ → ℕ → NumberAnswer → NumberAnswer
+held value weight (Read v next) = Read (value + weight * v) next
+held value weight Bad = Bad
+held value weight Ended = Ended
 
--- what stands beside a group has room for it
-pub joinable : (n : ℕ) (s : List ℕ) (at : ℕ) (x : NumberAnswer) → n ≤ 3 → x ≡ laterIn n s at → Below 0x200_0000 x
-joinable n s at x h e = rw e (wider (limit n) 0x200_0000 (laterIn n s at) (limit-three n h) (later-small n s at))
+-- the first group alone
+pub held-first : (low : ℕ) (x : NumberAnswer) → held low 128 x ≡ joined low x
+held-first low (Read v next) = refl
+held-first low Bad = refl
+held-first low Ended = refl
+
+-- one group more
+pub held-more : (value weight low : ℕ) (x : NumberAnswer) → held value weight (joined low x) ≡ held (value + weight * low) (weight * 128) x
+held-more value weight low (Read v next) = rw (mul-add weight low (128 * v), mul-assoc weight 128 v, add-assoc value (weight * low) (weight * (128 * v))) refl
+held-more value weight low Bad = refl
+held-more value weight low Ended = refl
+
+-- a group below k, beside what is below its weight
+pub room : (value weight k : ℕ) (low : ℕ) → value < weight → low < k → value + weight * low < weight * k
+room value weight k low h l = omega (arith, mul-le-mul-left weight l, mul-suc weight low)
+
+-- a group that another may follow holds all seven bits
+pub seven : (n : ℕ) → (n ≡ 0 → ⊥) → 128 < limit n
+seven zero z = absurd (z refl)
+seven (suc zero) z = omega arith
+seven (suc (suc n)) z = omega (arith, some n)
+
+-- with the next group's weight, one group fewer may follow
+pub limit-next : (n m weight : ℕ) → n ≡ suc m → weight * 128 * limit m ≡ weight * limit n
+limit-next n m weight e = rw (e, mul-assoc weight 128 (limit m)) refl
 
 -- ---- writing, as the code does it
 

@@ -2,10 +2,10 @@
 // another group follows. At most five groups, the fifth at most 15, and a last group of zero only alone:
 // so each `u32` is written in one way.
 ghost use mathlib.Core.Path.{_≡_};
-ghost use Prim.Native.Nat.{_<_, _≤_};
+ghost use Prim.Native.Nat.{_<_};
 ghost use lib.ListN.{drop};
 ghost use Rattle.number.specs.Told.{Told};
-ghost use Rattle.casefile.specs.Numbers.{decodeNumber, numberOutcome, numberValues, laterIn, joined as joinedOf, Below};
+ghost use Rattle.casefile.specs.Numbers.{decodeNumber, numberOutcome, numberValues, laterIn, joined};
 
 // What reading a number finds.
 pub enum NumberAnswer {
@@ -23,44 +23,42 @@ fn wide(byte: u8) -> u32
     byte as u32
 }
 
-// A group, and what the groups after it give.
-fn joined(low: u32, high: NumberAnswer) -> NumberAnswer
-    requires { ⌜ (low < 128) × Below 0x200_0000 high ⌝ }
-    ensures { λ r. ⌜ r ≡ joinedOf low high ⌝ }
+// A number of more than one group, of which the first gives `first` and the second stands at `at`.
+fn later(bytes: &[u8], first: u32, at: usize) -> NumberAnswer
+    requires { ⌜ first < 128 ⌝ }
+    ensures { λ r. ⌜ r ≡ joined first (laterIn 3 (drop at (now (bytes .entry))) at) ⌝ }
 {
-    match high {
-        NumberAnswer::Read { value, next } => NumberAnswer::Read {
-            value: low + 128 * value,
-            next,
-        },
-        NumberAnswer::Bad => NumberAnswer::Bad,
-        NumberAnswer::Ended => NumberAnswer::Ended,
-    }
-}
-
-// A group that is not the first, with at most `more` after it.
-fn later(bytes: &[u8], at: usize, more: usize) -> NumberAnswer
-    requires { ⌜ more ≤ 3 ⌝ }
-    ensures { λ r. ⌜ r ≡ laterIn more (drop at (now (bytes .entry))) at ⌝ }
-{
-    if bytes.len() <= at {
-        return NumberAnswer::Ended;
-    }
-    let group = wide(bytes[at]);
-    let next = at + 1;
-    if group == 0 {
-        return NumberAnswer::Bad;
-    }
-    if more == 0 {
-        if 15 < group {
+    // what the groups before `next` give, what the group there counts, and how many may follow it
+    let mut value = first;
+    let mut weight: u32 = 128;
+    let mut more: u32 = 3;
+    let mut next = at;
+    while next < bytes.len() {
+        let group = wide(bytes[next]);
+        next += 1;
+        if group == 0 {
             return NumberAnswer::Bad;
         }
-        return NumberAnswer::Read { value: group, next };
+        if more == 0 {
+            if 15 < group {
+                return NumberAnswer::Bad;
+            }
+            return NumberAnswer::Read {
+                value: value + weight * group,
+                next,
+            };
+        }
+        if group < 128 {
+            return NumberAnswer::Read {
+                value: value + weight * group,
+                next,
+            };
+        }
+        value += weight * (group % 128);
+        weight *= 128;
+        more -= 1;
     }
-    if group < 128 {
-        return NumberAnswer::Read { value: group, next };
-    }
-    joined(group % 128, later(bytes, next, more - 1))
+    NumberAnswer::Ended
 }
 
 // The number that starts at `at`.
@@ -76,5 +74,5 @@ pub fn read_number(bytes: &[u8], at: usize) -> NumberAnswer
     if group < 128 {
         return NumberAnswer::Read { value: group, next };
     }
-    joined(group % 128, later(bytes, next, 3))
+    later(bytes, group % 128, next)
 }

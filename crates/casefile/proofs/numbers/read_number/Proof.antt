@@ -1,11 +1,8 @@
 -- A number is `decodeNumber`: its first group, joined with the later ones. Assumes nothing.
-use Prim.Native.Nat.{_%_}
-use mathlib.Core.Path.{sym, ap, _∙_}
-use native.Mathlib.Omega.{arith}
+use mathlib.Core.Path.{sym, _∙_}
 use borrow.Author.Needs.{needs}
 use Rattle.number.proofs.Told.{both}
-use Rattle.casefile.specs.Numbers.{joined}
-use Rattle.casefile.proofs.Groups.{first-ended, first-last, first-more, joinable}
+use Rattle.casefile.proofs.Groups.{first-ended, first-last, first-more}
 use Rattle.casefile.proofs.numbers.read_number.Statement.{statement}
 use Rattle.casefile.proofs.numbers.read_number.Tie as tie
 
@@ -18,19 +15,11 @@ returns-2 c =
     let a = w .before .before .before .before .args in
     both (sym (first-last (a .bytes .now) (a .at) (w .wide .result) (w .before .before .if1 .left) (w .wide .ensures) (c .if2 .taken)))
 
-joined-requires : tie.Need-joined-requires
-joined-requires c κs = (omega arith, joinable _ _ _ _ (omega arith) (c .later .ensures))
-
 returns-3 : tie.Need-returns-3
 returns-3 c =
-    let l = c .before in
-    let w = l .before .before in
+    let w = c .before .before in
     let a = w .before .before .before .before .args in
-    both
-    (c .joined .ensures ∙ ap (joined (w .wide .result % 128)) (l .later .ensures)
-    ∙ sym (first-more (a .bytes .now) (a .at) (w .wide .result) (w .before .before .if1 .left) (w .wide .ensures) (l .before .if2 .left)))
+    both (c .later .ensures ∙ sym (first-more (a .bytes .now) (a .at) (w .wide .result) (w .before .before .if1 .left) (w .wide .ensures) (c .before .if2 .left)))
 
 pub read-number-spec : {M : Type 1} → statement M
-read-number-spec =
-    tie.close
-    (tie.spec returns (λ c. search needs) (λ c κs. tt) (λ c. search needs) returns-2 (λ c κs. search needs) joined-requires returns-3)
+read-number-spec = tie.close (tie.spec returns (λ c. search needs) (λ c κs. tt) (λ c. search needs) returns-2 (λ c κs. search needs) returns-3)
