@@ -43,7 +43,8 @@ pub fn separate(
     pending: &mut [usize],
 ) -> Outcome
     ensures answer { λ r. ⌜ Ends (separated binary32 pos12 g1 g2 dir «max_dist» exact) r (λ m. allLent m vertices ids floats deleted edges «heap_ids» «heap_keys» pending) ⌝ }
-    ensures told { λ r. ⌜ Told outcomeNumber outcomeValues r (separated binary32 pos12 g1 g2 dir «max_dist» exact (allLent called vertices ids floats deleted edges «heap_ids» «heap_keys» pending) .answer) ⌝ }
+    ensures told { λ r. ⌜ Told outcomeNumber outcomeValues r
+        (separated binary32 pos12 g1 g2 dir «max_dist» exact (allLent called vertices ids floats deleted edges «heap_ids» «heap_keys» pending) .answer) ⌝ }
 {
     let start = start_of(pos12, g1, g2, dir);
     let run = gjk::closest_points(pos12, g1, g2, max_dist, exact, start);

@@ -114,7 +114,8 @@ pub fn closest_points(
     heap_keys: &mut [f32],
 ) -> Answer
     ensures answer { λ r. ⌜ Ends (penetration recursive binary32 pos12 g1 g2 simplex) r (λ m. fourLent m vertices ids floats deleted edges «heap_ids» «heap_keys») ⌝ }
-    ensures told { λ r. ⌜ Told answerNumber answerValues r (penetration recursive binary32 pos12 g1 g2 simplex (fourLent called vertices ids floats deleted edges «heap_ids» «heap_keys») .answer) ⌝ }
+    ensures told { λ r. ⌜ Told answerNumber answerValues r
+        (penetration recursive binary32 pos12 g1 g2 simplex (fourLent called vertices ids floats deleted edges «heap_ids» «heap_keys») .answer) ⌝ }
 {
     let mut none = [0usize; 0];
     let finish = run(
@@ -151,7 +152,8 @@ pub fn closest_points_plain(
     pending: &mut [usize],
 ) -> Answer
     ensures answer { λ r. ⌜ Ends (penetration plain binary32 pos12 g1 g2 simplex) r (λ m. allLent m vertices ids floats deleted edges «heap_ids» «heap_keys» pending) ⌝ }
-    ensures told { λ r. ⌜ Told answerNumber answerValues r (penetration plain binary32 pos12 g1 g2 simplex (allLent called vertices ids floats deleted edges «heap_ids» «heap_keys» pending) .answer) ⌝ }
+    ensures told { λ r. ⌜ Told answerNumber answerValues r
+        (penetration plain binary32 pos12 g1 g2 simplex (allLent called vertices ids floats deleted edges «heap_ids» «heap_keys» pending) .answer) ⌝ }
 {
     let finish = run(
         vertices,

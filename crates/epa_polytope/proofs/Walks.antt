@@ -360,10 +360,6 @@ module _ (m : Mesh) (N : ℕ) (h : NeighboursIn N N (m .ids)) where
       let s2 = walk m s1 b in
       omega (arith, misses-few s a ya, misses-few s1 b yb, misses-few s2 c yc)
 
-pub same-room-pass : (m : Mesh) (s : Walked) (a b c : Question) → length (pass m s a b c .edges) ≡ length (s .edges)
-unfolding pass
-same-room-pass m s a b c = same-room m _ c ∙ same-room m _ b ∙ same-room m s a
-
 pub same-marks-pass : (m : Mesh) (s : Walked) (a b c : Question) → length (pass m s a b c .deleted) ≡ length (s .deleted)
 unfolding pass
 same-marks-pass m s a b c = same-marks m _ c ∙ same-marks m _ b ∙ same-marks m s a
