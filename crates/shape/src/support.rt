@@ -65,9 +65,7 @@ impl Shape {
     {
         match self {
             Shape::Ball(radius) => ball_toward(m, radius, dir.normalize()),
-            Shape::Cuboid(_, _, _) => self.in_pose(m, dir),
-            Shape::Capsule(_, _, _, _, _, _, _) => self.in_pose(m, dir),
-            Shape::Triangle(_, _, _, _, _, _, _, _, _) => self.in_pose(m, dir),
+            _ => self.in_pose(m, dir),
         }
     }
 
@@ -84,9 +82,7 @@ impl Shape {
     {
         match self {
             Shape::Ball(radius) => ball_toward(m, radius, dir),
-            Shape::Cuboid(_, _, _) => self.in_pose_toward(m, dir),
-            Shape::Capsule(_, _, _, _, _, _, _) => self.in_pose_toward(m, dir),
-            Shape::Triangle(_, _, _, _, _, _, _, _, _) => self.in_pose_toward(m, dir),
+            _ => self.in_pose_toward(m, dir),
         }
     }
 
