@@ -1,77 +1,13 @@
--- `number::digits::root_bits` meets its contract: what `root_of` is handed is the significand, with its leading digit at the 24th place, and the places that are left. Assumes nothing.
-use mathlib.Core.Path.{_≡_, sym, ap, _∙_}
-use Prim.Native.Nat.{ℕ, suc, _+_, _-_, _*_, _/_, _%_, _^_, _≤_, _<_}
-use native.Mathlib.Nat.{mod-eq-of-lt, lt-of-lt-of-le}
-use native.Mathlib.Omega.{arith}
-use borrow.Author.Needs.{needs}
-use lib.Dec.{lit≤}
-use lib.Count.{leadingZeros}
+-- `number::digits::root_bits` meets its contract, since `scale` does: the root of what it answers is the root. Assumes nothing.
 use lib.Ieee.{binary32, ofBits}
-use Rattle.number.specs.Root.{square}
-use Rattle.number.proofs.Width.{Lead, lead, low-square, high-square}
 use Rattle.number.proofs.digits.root_bits.Statement.{statement}
 use Rattle.number.proofs.digits.root_bits.Tie as tie
 
--- ---- below the normal numbers
-leads : (c : tie.Then1) → Lead binary32 32 (c .before .args .b) (leadingZeros 32 (c .before .args .b))
-leads c = lead binary32 32 (c .before .args .b) (lit≤ tt) (c .before .pre .0) (c .if1 .taken)
-
--- the shift drops nothing
-whole : (c : tie.Then1) → let t = c .before .args .b * 2 ^ (leadingZeros 32 (c .before .args .b) - 8) in t % 2 ^ 32 ≡ t
-whole c = mod-eq-of-lt (lt-of-lt-of-le (leads c .high-end) (lit≤ tt))
-
-low-number : (c : tie.Then1) → let b = c .before .args .b in let z = leadingZeros 32 b - 8 in square binary32 (ofBits binary32 b) ≡ b * 2 ^ z % 2 ^ 32 * 2 ^ (23 + (126 - z))
-low-number c =
-    let b = c .before .args .b in
-    let z = leadingZeros 32 b - 8 in
-    low-square binary32 b z (23 + (126 - z)) (c .if1 .taken) (sums z (omega (arith, leads c .most))) ∙ ap (λ (m : ℕ). m * 2 ^ (23 + (126 - z))) (sym (whole c))
-  where
-    sums : (z : ℕ) → z ≤ 126 → z + (23 + (126 - z)) ≡ 149
-    sums z h = omega arith
-
--- ---- the normal numbers
-high-number : (b : ℕ) → 8388608 ≤ b → b < 2139095040 → let e = b / 8388608 - 1 in square binary32 (ofBits binary32 b) ≡ (b - e * 8388608) * 2 ^ (23 + (e + 126))
-high-number b h l =
-    let e = b / 8388608 - 1 in
-    let d = b % 8388608 in
-    let pattern : suc e * 8388608 + d ≡ b = omega arith in
-    let digits : 8388608 + d ≡ b - e * 8388608 = omega arith in
-    ap (λ (m : ℕ). square binary32 (ofBits binary32 m)) (sym pattern)
-    ∙ high-square binary32 e d (23 + (e + 126)) (omega arith) (omega arith) (omega arith)
-    ∙ ap (λ (m : ℕ). m * 2 ^ (23 + (e + 126))) digits
-
-sub-z : tie.Need-sub-z
-sub-z c = leads c .enough
-
-shl-root-of : tie.Need-shl-root-of
-shl-root-of c = omega (arith, leads c .most)
-
-sub-root-of : tie.Need-sub-root-of
-sub-root-of c = omega (arith, leads c .most)
-
 root-of-requires : tie.Need-root-of-requires
-root-of-requires c κs = rw (whole c) (leads c .low-end, leads c .high-end, omega arith)
-
-sub-e : tie.Need-sub-e
-sub-e c = search needs
-
-mul-root-of : tie.Need-mul-root-of
-mul-root-of c = search needs
-
-sub-root-of-2 : tie.Need-sub-root-of-2
-sub-root-of-2 c = search needs
-
-add-root-of : tie.Need-add-root-of
-add-root-of c = search needs
-
-root-of-requires-2 : tie.Need-root-of-requires-2
-root-of-requires-2 c κs = search needs
+root-of-requires c κs = (c .scale .ensures .0, c .scale .ensures .1, c .scale .ensures .2)
 
 returns : tie.Need-returns
-returns c = (c .root-of .ensures .0, c .root-of .ensures .1 (ofBits binary32 (c .before .before .args .b)) (low-number (c .before)))
-
-returns-2 : tie.Need-returns-2
-returns-2 c = (c .root-of2 .ensures .0, c .root-of2 .ensures .1 (ofBits binary32 (c .before .before .args .b)) (high-number (c .before .before .args .b) (c .before .if1 .left) (c .before .before .pre .1)))
+returns c = (c .root-of .ensures .0, c .root-of .ensures .1 (ofBits binary32 (c .before .before .args .b)) (c .before .scale .ensures .3))
 
 pub root-bits-spec : {M : Type 1} → statement M
-root-bits-spec = tie.close (tie.spec sub-z shl-root-of sub-root-of root-of-requires sub-e mul-root-of sub-root-of-2 add-root-of root-of-requires-2 returns returns-2)
+root-bits-spec = tie.close (tie.spec (λ c κs. c .pre) root-of-requires returns)
