@@ -2,12 +2,15 @@
 // whatever the lists hold that it is not lent.
 ghost use mathlib.Core.Path.{_≡_};
 ghost use lib.Ieee.{binary32};
-ghost use Rattle.epa_polytope.specs.Face.{faceNormal, faceNew, weightsOr, holdsAt};
+ghost use Rattle.epa_polytope.specs.Face.{faceNew};
 ghost use Rattle.epa_polytope.specs.Contracts.{Reads};
 ghost use Rattle.epa_polytope.specs.Stores.{vertexAt, withVertices, withFaceIds, withFaceFloats};
 ghost use Rattle.epa_polytope.specs.Silhouette.{nextCcwPtId, cornerOr0, misses, facingFrom};
 ghost use Rattle.epa_polytope.specs.Steps.{weighted, answerOf};
 ghost use Rattle.epa_polytope.specs.Expansion.{canBeSeenBy};
+
+mod face;
+
 use epa_polytope::End;
 use epa_polytope::Facing;
 use epa_polytope::Found;
@@ -19,58 +22,9 @@ use epa_stores::neighbour_at;
 use epa_stores::normal_of;
 use epa_stores::vertex_at;
 use epa_stores::weights_of;
-use projection::BarycentricCoordinates;
+pub use face::face_new;
 use projection::Triangle;
-use projection::TrianglePointLocation;
-use projection::is_inside_eps;
 use vector::Vec3;
-
-// `ccw_face_normal`, or zero where it has none.
-fn face_normal(a: Vec3, b: Vec3, c: Vec3) -> Vec3
-    ensures { λ r. ⌜ r ≡ faceNormal binary32 a b c ⌝ }
-{
-    let ab = b.sub(a);
-    let ac = c.sub(a);
-    ab.cross(ac).normalize_or_zero()
-}
-
-// `unwrap`, and zeros for a solid.
-fn weights_or(w: BarycentricCoordinates) -> Vec3
-    ensures { λ r. ⌜ r ≡ weightsOr w ⌝ }
-{
-    match w {
-        BarycentricCoordinates::Some(x, y, z) => Vec3 { x, y, z },
-        BarycentricCoordinates::None => Vec3::ZERO,
-        BarycentricCoordinates::Refused => Vec3::ZERO,
-    }
-}
-
-// Whether a face holds a projection there: at a corner or on an edge if it is `near` the origin.
-fn holds_at(near: bool, location: TrianglePointLocation) -> bool
-    ensures { λ r. ⌜ r ≡ holdsAt near location ⌝ }
-{
-    match location {
-        TrianglePointLocation::OnVertex(_) => near,
-        TrianglePointLocation::OnEdge(_, _, _) => near,
-        TrianglePointLocation::OnFace(_, _, _, _) => true,
-        TrianglePointLocation::OnSolid => false,
-    }
-}
-
-// `Face::new`
-pub fn face_new(a: Vec3, b: Vec3, c: Vec3) -> Made
-    ensures { λ r. ⌜ r ≡ faceNew binary32 a b c ⌝ }
-{
-    let tri = Triangle { a, b, c };
-    let proj = tri.project_local_point_and_get_location(Vec3::ZERO);
-    let location = proj.location;
-    let near = is_inside_eps(proj.point, number::polytope_tol());
-    Made {
-        normal: face_normal(a, b, c),
-        weights: weights_or(location.barycentric_coordinates()),
-        holds: holds_at(near, location),
-    }
-}
 
 // `Face::new` of three vertices.
 pub fn made_of(vertices: &[f32], a: usize, b: usize, c: usize) -> Made
@@ -171,16 +125,20 @@ pub fn can_be_seen_by(
 {
     let face = question.face;
     let corner = question.corner;
+    let pt = vertex_at(vertices, point).point;
     let p0 = vertex_at(vertices, corner_at(ids, face, corner)).point;
+    let away = pt.sub(p0).dot(normal_of(floats, face));
+    // the Rust's `||`: the other corners are read only where this test fails
+    if away >= -number::eps_tol() {
+        return true;
+    }
     // `% 3` first, so that no sum overflows; the value is the Rust's
     let p1 = vertex_at(vertices, corner_at(ids, face, (corner % 3 + 1) % 3)).point;
     let p2 = vertex_at(vertices, corner_at(ids, face, (corner % 3 + 2) % 3)).point;
-    let pt = vertex_at(vertices, point).point;
-    let away = pt.sub(p0).dot(normal_of(floats, face));
     let tri = Triangle {
         a: p1,
         b: p2,
         c: pt,
     };
-    (away >= -number::eps_tol()) | tri.is_affinely_dependent()
+    tri.is_affinely_dependent()
 }

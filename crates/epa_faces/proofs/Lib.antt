@@ -1,0 +1,2 @@
+-- Facts on plain values.
+pub mod Regions
