@@ -1,6 +1,7 @@
 // The silhouette walk without recursion: a loop over a lent store of pending questions, last in, first out. What a
 // question does is as in `compute_silhouette` of epa3.rs (`epa_silhouette`), but that the two which follow from a seen
 // face are put in, the second first. How many faces are live falls with each that is seen.
+ghost use Prim.Native.Nat.{_<_};
 ghost use mathlib.Core.Path.{_≡_};
 ghost use mathlib.Core.Bool.{false};
 ghost use Rattle.epa_polytope.specs.Stores.{withVertices, withFaceIds, withFaceFloats};
@@ -8,7 +9,6 @@ ghost use Rattle.epa_polytope.specs.Silhouette.{walked};
 ghost use Rattle.epa_polytope.specs.PlainWalk.{walking, walkingBy, putIn, questionAt, without, answerQuestion, turn, plainWalk, plainPass};
 ghost use Rattle.epa_polytope.specs.Expansion.{meshOf, passBy};
 ghost use Rattle.epa_polytope.specs.Contracts.{Reads, single};
-ghost use Rattle.epa_polytope.specs.Code.{restsOf};
 use epa_faces::can_be_seen_by;
 use epa_faces::facing_at;
 use epa_polytope::PlainSoFar;
@@ -17,7 +17,6 @@ use epa_polytope::Walk;
 use epa_polytope::WalkAnswer;
 use epa_silhouette::note;
 use epa_silhouette::pass;
-use epa_stores::before;
 use epa_stores::deleted_at;
 use epa_stores::pair_at;
 use epa_stores::set_deleted;
@@ -111,18 +110,7 @@ fn answer_question(
 
 // ---- the loop
 
-// Whether nothing is left to do.
-fn rests(sofar: PlainSoFar) -> bool
-    ensures { λ r. ⌜ r ≡ restsOf sofar ⌝ }
-{
-    let answer = sofar.answer;
-    match answer {
-        WalkAnswer::NoRoom => true,
-        WalkAnswer::Done(_) => sofar.short | (sofar.held == 0),
-    }
-}
-
-// A turn, where something is left to do.
+// A turn, where there was room so far and a question is held: the last comes out, and is answered.
 fn take_turn(
     vertices: &[f32],
     ids: &[usize],
@@ -131,21 +119,25 @@ fn take_turn(
     edges: &mut [usize],
     pending: &mut [usize],
     point: usize,
-    sofar: PlainSoFar,
+    count: usize,
+    missed: usize,
+    held: usize,
 ) -> PlainSoFar
-    requires { ⌜ restsOf sofar ≡ false ⌝ }
-    ensures { λ r. ⌜ Reads (λ l. turn (meshOf single l point) (walkingBy (now (deleted .entry)) (now (edges .entry)) (now (pending .entry)) sofar))
+    requires { ⌜ 0 < held ⌝ }
+    ensures { λ r. ⌜ Reads (λ l. turn (meshOf single l point)
+        (walking (walked (now (deleted .entry)) (now (edges .entry)) missed (WalkAnswer.Done count)) (now (pending .entry)) held false))
         (walkingBy (now (deleted .exit)) (now (edges .exit)) (now (pending .exit)) r)
         (λ k. withVertices (now (vertices .entry)) (withFaceIds (now (ids .entry)) (withFaceFloats (now (floats .entry)) k))) ⌝ }
 {
-    let answer = sofar.answer;
-    let WalkAnswer::Done(count) = answer else {
-        return sofar;
+    let last = held - 1;
+    let q = question_at(pending, last);
+    clear_at(pending, last);
+    let taken = PlainSoFar {
+        answer: WalkAnswer::Done(count),
+        missed,
+        held: last,
+        short: false,
     };
-    let mut taken = sofar;
-    taken.held = before(sofar.held);
-    let q = question_at(pending, taken.held);
-    clear_at(pending, taken.held);
     answer_question(
         vertices,
         ids,
@@ -160,7 +152,9 @@ fn take_turn(
     )
 }
 
-// Turns, while something is left to do.
+// Turns, while a question is held and there was room for each edge and each question. The loop carries three numbers, all
+// of a `PlainSoFar` that changes while the walk goes on: a struct with a `bool` or an enum in it would be copied through
+// memory at every turn.
 pub fn plain_walk(
     vertices: &[f32],
     ids: &[usize],
@@ -175,12 +169,45 @@ pub fn plain_walk(
         (walkingBy (now (deleted .exit)) (now (edges .exit)) (now (pending .exit)) r)
         (λ k. withVertices (now (vertices .entry)) (withFaceIds (now (ids .entry)) (withFaceFloats (now (floats .entry)) k))) ⌝ }
 {
-    let mut sofar = start;
-    loop {
-        if rests(sofar) {
-            return sofar;
+    let answer = start.answer;
+    let WalkAnswer::Done(first) = answer else {
+        return start;
+    };
+    if start.short {
+        return start;
+    }
+    let mut count = first;
+    let mut missed = start.missed;
+    let mut held = start.held;
+    while held > 0 {
+        let turned = take_turn(
+            vertices,
+            ids,
+            floats,
+            deleted,
+            edges,
+            pending,
+            point,
+            count,
+            missed,
+            held,
+        );
+        let answered = turned.answer;
+        let WalkAnswer::Done(n) = answered else {
+            return turned;
+        };
+        if turned.short {
+            return turned;
         }
-        sofar = take_turn(vertices, ids, floats, deleted, edges, pending, point, sofar);
+        count = n;
+        missed = turned.missed;
+        held = turned.held;
+    }
+    PlainSoFar {
+        answer: WalkAnswer::Done(count),
+        missed,
+        held,
+        short: false,
     }
 }
 

@@ -1,18 +1,17 @@
 -- The plain walk as the code makes it: a question is answered by what the code tests, a turn takes one out, and the loop goes on while a turn does something. Assumes nothing.
-use mathlib.Core.Path.{_≡_, refl, sym, ap, subst, _∙_}
-use mathlib.Core.Bool.{Bool, true, false, _||_}
+use mathlib.Core.Path.{_≡_, refl, sym, ap, _∙_}
+use mathlib.Core.Bool.{Bool, true, false}
 use mathlib.Core.List.{List}
-use Prim.Native.Nat.{ℕ, zero, suc, _+_, _-_, _*_, _/_, _%_, _<_, _≤_}
+use Prim.Native.Nat.{ℕ, _+_, _-_, _/_, _%_, _<_, _≤_}
 use native.Mathlib.Omega.{arith}
 use lib.ListN.{length, getD, set}
 use lib.Dec.{eqb, ltb}
-use borrow.Author.Tests.{eqb-true, eqb-false, eq-eqb, ne-eqb, lt-ltb, le-ltb}
+use borrow.Author.Tests.{eq-eqb, ne-eqb, lt-ltb, le-ltb}
 use Rattle.epa_polytope.specs.Stores.{Lists}
 use Rattle.epa_polytope.specs.Silhouette.{Question, WalkAnswer, Done, NoRoom, Mesh, Walked, walked, Facing, facing, withMissed, facingFrom, edgePut, notedIf, noted, pass}
 use Rattle.epa_polytope.specs.Start.{Walk, recursive, plain}
 use Rattle.epa_polytope.specs.Expansion.{passBy}
 use Rattle.epa_polytope.specs.PlainWalk.{Walking, walking, walkingBy, PlainSoFar, putIf, putIn, questionAt, without, answerIf, answerQuestion, turn, plainWalk, plainPass}
-use Rattle.epa_polytope.specs.Code.{restsBy, restsOf}
 use Rattle.epa_polytope.proofs.Lists.{next-two}
 use Rattle.epa_polytope.proofs.PlainWalks.{potential, answer-less, turn-short, turn-full, turn-none, turn-takes, walk-turn, walk-rests}
 
@@ -73,95 +72,78 @@ module _ (m : Mesh) (s : Walking) (n : ℕ) (q : Question) where
 
 -- ---- a turn
 
--- where a turn does something: the walk goes on, and a question is held
-pub record Moving (r : PlainSoFar) : Type 0 where
-  pub count : ℕ
-  pub goesOn : r .answer ≡ Done count
-  pub placed : r .short ≡ false
-  pub some : suc (r .held - 1) ≡ r .held
+-- a walk that goes on, by the three numbers that the loop carries
+abbrev pub going : List ℕ → List ℕ → List ℕ → ℕ → ℕ → ℕ → Walking
+going d e p count missed held = walking (walked d e missed (Done count)) p held false
 
-pub moving : (r : PlainSoFar) → restsOf r ≡ false → Moving r
-moving r e = by (r .answer) (r .short) refl refl (eqb (r .held) 0) refl e
-  where
-    none : {A : Type 0} → true ≡ false → A
-    none z = let y : _≡_ {A = ℕ} 1 0 = ap (λ (b : Bool). mathlib.Core.Bool.cond b 1 0) z in absurd (omega arith)
+module _ (m : Mesh) (d e p : List ℕ) (count missed held : ℕ) (some : 0 < held) where
+  takes : turn m (going d e p count missed held) ≡ answerQuestion m (going d e (without p (held - 1)) count missed (held - 1)) count (questionAt p (held - 1))
+  takes = turn-takes m (going d e p count missed held) refl refl (omega arith)
 
-    by : (a : WalkAnswer) (b : Bool) → r .answer ≡ a → r .short ≡ b → (c : Bool) → eqb (r .held) 0 ≡ c → restsBy a b c ≡ false → Moving r
-    by NoRoom b ea eb c ec z = none z
-    by (Done n) true ea eb c ec z = none z
-    by (Done n) false ea eb true ec z = none z
-    by (Done n) false ea eb false ec z = record { count = n; goesOn = ea; placed = eb; some = some-held (eqb-false (r .held) 0 ec) }
-      where
-        some-held : (r .held ≡ 0 → ⊥) → suc (r .held - 1) ≡ r .held
-        some-held e = omega arith
+  -- a turn by what its steps leave
+  pub turn-made : {p1 : List ℕ} {q : Question} {s : Walking} → q ≡ questionAt p (held - 1) → p1 ≡ without p (held - 1) → s ≡ answerQuestion m (going d e p1 count missed (held - 1)) count q
+      → s ≡ turn m (going d e p count missed held)
+  turn-made eq ep es = let t = takes in cc
 
--- and there a walk has not run out of edges
-pub never-full : {A : Type 0} (r : PlainSoFar) → restsOf r ≡ false → r .answer ≡ NoRoom → A
-never-full r e ea =
-    let g = moving r e .goesOn in
-    let z : _≡_ {A = ℕ} 0 1 = cc in
-    absurd (omega arith)
+  -- and something falls
+  pub turn-less : {s : Walking} → s ≡ turn m (going d e p count missed held) → potential s < potential (going d e p count missed held)
+  turn-less es =
+      let less = answer-less m (going d e (without p (held - 1)) count missed (held - 1)) count (questionAt p (held - 1)) in
+      omega (arith, less, ap potential es, ap potential takes)
 
-module _ (m : Mesh) (d e p : List ℕ) (r : PlainSoFar) where
-  -- nothing is left to do
-  pub rests-so : restsOf r ≡ true → turn m (walkingBy d e p r) ≡ walkingBy d e p r
-  rests-so z = by (r .answer) (r .short) refl refl (eqb (r .held) 0) refl z
+-- ---- a walk with nothing left to do: no room was found, or no question is held
+
+module _ (m : Mesh) (s : Walking) where
+  pub walk-short : s .short ≡ true → s ≡ plainWalk m s
+  walk-short e = sym (walk-rests m s (turn-short m s e))
+
+  pub walk-full : s .walk .answer ≡ NoRoom → s ≡ plainWalk m s
+  walk-full e = by (s .short) refl
     where
-      none : {A : Type 0} → false ≡ true → A
-      none z = let y : _≡_ {A = ℕ} 0 1 = ap (λ (b : Bool). mathlib.Core.Bool.cond b 1 0) z in absurd (omega arith)
-
-      by : (a : WalkAnswer) (b : Bool) → r .answer ≡ a → r .short ≡ b → (c : Bool) → eqb (r .held) 0 ≡ c → restsBy a b c ≡ true → turn m (walkingBy d e p r) ≡ walkingBy d e p r
-      by NoRoom true ea eb c ec z = turn-short m (walkingBy d e p r) eb
-      by NoRoom false ea eb c ec z = turn-full m (walkingBy d e p r) eb ea
-      by (Done n) true ea eb c ec z = turn-short m (walkingBy d e p r) eb
-      by (Done n) false ea eb true ec z = turn-none m (walkingBy d e p r) eb ea (eqb-true (r .held) 0 ec)
-      by (Done n) false ea eb false ec z = none z
-
-  pub walk-rests-so : restsOf r ≡ true → walkingBy d e p r ≡ plainWalk m (walkingBy d e p r)
-  walk-rests-so z = sym (walk-rests m (walkingBy d e p r) (rests-so z))
-
-  module _ (v : Moving r) where
-    takes : {n : ℕ} → r .answer ≡ Done n → turn m (walkingBy d e p r) ≡ answerQuestion m (walking (walked d e (r .missed) (r .answer)) (without p (r .held - 1)) (r .held - 1) false) n (questionAt p (r .held - 1))
-    takes ea = turn-takes m (walkingBy d e p r) (v .placed) ea (sym (v .some))
-
-    -- a turn by what its steps leave
-    pub turn-made : {n h : ℕ} {p1 : List ℕ} {q : Question} {s : Walking} → r .answer ≡ Done n → h ≡ r .held - 1 → q ≡ questionAt p h → p1 ≡ without p h
-        → s ≡ answerQuestion m (walking (walked d e (r .missed) (r .answer)) p1 h (r .short)) n q → s ≡ turn m (walkingBy d e p r)
-    turn-made {n} ea eh eq ep es =
-        let t = takes ea in
-        let b = v .placed in
-        cc
-
-    -- and something falls
-    pub turn-less : {s : Walking} → s ≡ turn m (walkingBy d e p r) → potential s < potential (walkingBy d e p r)
-    turn-less {s} es =
-        let less = answer-less m (walking (walked d e (r .missed) (r .answer)) (without p (r .held - 1)) (r .held - 1) false) (v .count) (questionAt p (r .held - 1)) in
-        omega (arith, less, ap potential es, ap potential (takes (v .goesOn)), v .some)
+      by : (b : Bool) → s .short ≡ b → s ≡ plainWalk m s
+      by true eb = walk-short eb
+      by false eb = sym (walk-rests m s (turn-full m s eb e))
 
 -- ---- the loop
 
--- from the lists as they were lent, and the start r0, the loop has come to the lists as they are and to r: the walk from here is the walk from there
-pub record WalkLoop (mesh : Lists → Mesh) (d0 e0 p0 : List ℕ) (r0 : PlainSoFar) (d e p : List ℕ) (r : PlainSoFar) : Type 0 where
-  pub marks : length d ≡ length d0
-  pub room : length e ≡ length e0
-  pub places : length p ≡ length p0
-  pub goesOn : (k : Lists) → plainWalk (mesh k) (walkingBy d e p r) ≡ plainWalk (mesh k) (walkingBy d0 e0 p0 r0)
+-- what answers so many edges, and has refused no question, goes on
+pub goes : {d e p : List ℕ} (r : PlainSoFar) {n : ℕ} → r .answer ≡ Done n → r .short ≡ false → going d e p n (r .missed) (r .held) ≡ walkingBy d e p r
+goes r ea eb = cc
 
-pub loop-starts : (mesh : Lists → Mesh) (d e p : List ℕ) (r : PlainSoFar) → WalkLoop mesh d e p r d e p r
-loop-starts mesh d e p r = record { marks = refl; room = refl; places = refl; goesOn = λ k. refl }
+-- from s0 the loop has come to s: the lists keep their lengths, and the walk from here is the walk from there
+pub record WalkLoop (mesh : Lists → Mesh) (s0 s : Walking) : Type 0 where
+  pub marks : length (s .walk .deleted) ≡ length (s0 .walk .deleted)
+  pub room : length (s .walk .edges) ≡ length (s0 .walk .edges)
+  pub places : length (s .pending) ≡ length (s0 .pending)
+  pub goesOn : (k : Lists) → plainWalk (mesh k) s ≡ plainWalk (mesh k) s0
 
-module _ {mesh : Lists → Mesh} {d0 e0 p0 : List ℕ} {r0 : PlainSoFar} {d e p : List ℕ} {r : PlainSoFar} (h : WalkLoop mesh d0 e0 p0 r0 d e p r) where
-  pub loop-ends : restsOf r ≡ true → (k : Lists) → walkingBy d e p r ≡ plainWalk (mesh k) (walkingBy d0 e0 p0 r0)
-  loop-ends z k = walk-rests-so (mesh k) d e p r z ∙ h .goesOn k
+pub loop-starts : (mesh : Lists → Mesh) (s : Walking) → WalkLoop mesh s s
+loop-starts mesh s = record { marks = refl; room = refl; places = refl; goesOn = λ k. refl }
 
-  pub loop-again : {d' e' p' : List ℕ} {r' : PlainSoFar} → ((k : Lists) → walkingBy d' e' p' r' ≡ turn (mesh k) (walkingBy d e p r)) → length d' ≡ length d → length e' ≡ length e → length p' ≡ length p
-      → WalkLoop mesh d0 e0 p0 r0 d' e' p' r'
-  loop-again t ld le lp = record {
-    marks = ld ∙ h .marks;
-    room = le ∙ h .room;
-    places = lp ∙ h .places;
-    goesOn = λ k. ap (plainWalk (mesh k)) (t k) ∙ sym (walk-turn (mesh k) (walkingBy d e p r)) ∙ h .goesOn k;
-  }
+module _ {mesh : Lists → Mesh} {s0 s : Walking} (h : WalkLoop mesh s0 s) where
+  -- no question is held
+  pub ends-empty : s .short ≡ false → {n : ℕ} → s .walk .answer ≡ Done n → s .held ≡ 0 → (k : Lists) → s ≡ plainWalk (mesh k) s0
+  ends-empty eb ea eh k = sym (walk-rests (mesh k) s (turn-none (mesh k) s eb ea eh)) ∙ h .goesOn k
+
+  module _ {s' : Walking} (t : (k : Lists) → s' ≡ turn (mesh k) s) where
+    after-turn : (k : Lists) → plainWalk (mesh k) s' ≡ plainWalk (mesh k) s0
+    after-turn k = ap (plainWalk (mesh k)) (t k) ∙ sym (walk-turn (mesh k) s) ∙ h .goesOn k
+
+    pub ends-full : s' .walk .answer ≡ NoRoom → (k : Lists) → s' ≡ plainWalk (mesh k) s0
+    ends-full e k = walk-full (mesh k) s' e ∙ after-turn k
+
+    pub ends-short : s' .short ≡ true → (k : Lists) → s' ≡ plainWalk (mesh k) s0
+    ends-short e k = walk-short (mesh k) s' e ∙ after-turn k
+
+    -- a turn more
+    pub loop-again : {s'' : Walking} → s'' ≡ s' → length (s'' .walk .deleted) ≡ length (s .walk .deleted) → length (s'' .walk .edges) ≡ length (s .walk .edges)
+        → length (s'' .pending) ≡ length (s .pending) → WalkLoop mesh s0 s''
+    loop-again e ld le lp = record {
+      marks = ld ∙ h .marks;
+      room = le ∙ h .room;
+      places = lp ∙ h .places;
+      goesOn = λ k. ap (plainWalk (mesh k)) e ∙ after-turn k;
+    }
 
 -- ---- a pass
 

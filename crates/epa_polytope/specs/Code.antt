@@ -1,12 +1,11 @@
 -- What the functions of the code do, ask of their caller and answer one another that has no name of its own in the run. Definitions only; who reads the public contracts need not read them.
-use mathlib.Core.Bool.{Bool, true, false, not, _||_}
+use mathlib.Core.Bool.{Bool, true, false, not}
 use mathlib.Core.List.{List}
 use mathlib.Core.Option.{Option, none, some}
 use mathlib.Core.Path.{_≡_}
 use Prim.Native.Nat.{ℕ, _+_, _≤_, min}
 use lib.Ieee.{Float, Format}
 use lib.ListN.{length, getD}
-use lib.Dec.{eqb}
 use Rattle.heap.specs.Heap.{Entry}
 use Rattle.number.specs.Constants.{largest}
 use Rattle.shape.specs.declared.vertex.Vertex.{Vertex}
@@ -75,16 +74,6 @@ simplexVertices w x = stopIf (not (isSimplex x)) (Panics NotASimplex) >> startVe
 abbrev pub readyOf : Step → Float → Begun
 readyOf (Onward c) tol = Begun.Ready tol c
 readyOf (Ended e c) tol = Begun.Ended e c
-
--- ---- the plain walk
-
--- nothing is left to do: no room was found, or no question is held
-abbrev pub restsBy : WalkAnswer → Bool → Bool → Bool
-restsBy NoRoom short empty = true
-restsBy (Done n) short empty = short || empty
-
-abbrev pub restsOf : PlainSoFar → Bool
-restsOf r = restsBy (r .answer) (r .short) (eqb (r .held) 0)
 
 -- ---- a pass is over
 

@@ -1,23 +1,20 @@
 -- A turn: the last question comes out, and is answered. Assumes nothing.
-use mathlib.Core.Path.{refl, sym, _∙_}
+use mathlib.Core.Path.{_∙_}
 use borrow.Author.Needs.{needs}
 use Rattle.epa_polytope.proofs.Doing.{place}
-use Rattle.epa_polytope.proofs.PlainLoop.{Moving, moving, never-full, turn-made}
+use Rattle.epa_polytope.proofs.PlainLoop.{turn-made}
 use Rattle.epa_plain_walk.proofs.take_turn.Statement.{statement}
 use Rattle.epa_plain_walk.proofs.take_turn.Tie as tie
 
 returns : tie.Need-returns
-returns c k = never-full (place tie.Start (search) .args .sofar) (place tie.Start (search) .pre) (c .enum-told .given .1)
-
-returns-2 : tie.Need-returns-2
-returns-2 c k =
-    turn-made _ _ _ _ _ (moving _ (place tie.Start (search) .pre)) (place tie.After-answer (search) .answer .given .1) (place tie.After-before2 (search) .before2 .ensures)
-    (place tie.After-question-at (search) .question-at .ensures) (place tie.After-clear-at (search) .clear-at .ensures) (place tie.After-answer-question (search) .answer-question .ensures k)
+returns c k =
+    turn-made _ _ _ _ _ _ _ (place tie.Start (search) .pre) (place tie.After-question-at (search) .question-at .ensures) (place tie.After-clear-at (search) .clear-at .ensures)
+    (place tie.After-answer-question (search) .answer-question .ensures k)
 
 -- the lists keep their lengths
 same-pending : tie.Need-same-length-3
 same-pending c = place tie.After-answer-question (search) .answer-question .kept .1 .1 .1 .1 .1 .0 ∙ place tie.After-clear-at (search) .clear-at .kept .0
 
 pub take-turn-spec : {M : Type 1} → statement M
-take-turn-spec = tie.close (tie.spec (λ c. search needs) (λ c. search needs) returns (λ c κs. tt) (λ c κs. tt) (λ c κs. tt) (λ c κs. tt)
-    (λ c. place tie.After-answer-question (search) .answer-question .kept .1 .1 .1 .0) (λ c. place tie.After-answer-question (search) .answer-question .kept .1 .1 .1 .1 .0) same-pending returns-2)
+take-turn-spec = tie.close (tie.spec (λ c. search needs) (λ c κs. tt) (λ c κs. tt) (λ c κs. tt)
+    (λ c. place tie.After-answer-question (search) .answer-question .kept .1 .1 .1 .0) (λ c. place tie.After-answer-question (search) .answer-question .kept .1 .1 .1 .1 .0) same-pending returns)
