@@ -1,8 +1,13 @@
 // The pushes of the polytope's run, over lists that the caller lends: a vertex, a face, and a face's entry in the heap, each refused
 // where its store has no place left. What each leaves and answers is a step of the run that the crate `epa_polytope` defines.
 ghost use mathlib.Core.Path.{_≡_};
-ghost use Prim.Native.Nat.{min};
-ghost use Rattle.epa_polytope.specs.Stores.{withVertices, withFaceIds, withFaceFloats, withDeleted, withHeap, faceRoom, putFace};
+ghost use mathlib.Core.Bool.{cond};
+ghost use Prim.Native.Nat.{_+_, _*_, _≤_, min};
+ghost use lib.ListN.{length};
+ghost use Rattle.epa_polytope.specs.declared.types.End.the-variants.{NoRoom};
+ghost use Rattle.epa_polytope.specs.declared.types.Step.the-variants.{Onward, Ended};
+ghost use Rattle.epa_polytope.specs.declared.types.Store.the-variants.{Faces};
+ghost use Rattle.epa_polytope.specs.Stores.{withVertices, withFaceIds, withFaceFloats, withDeleted, withHeap, faceRoom, putFace, faceCount};
 ghost use Rattle.epa_polytope.specs.Steps.{pushVertex, pushFace, enqueue, faceIdNew, queueFace};
 ghost use Rattle.epa_polytope.specs.Contracts.{Reads, Leaves, when};
 use epa_polytope::End;
@@ -16,9 +21,7 @@ use epa_polytope::Tally;
 use epa_polytope::Three;
 use epa_stores::put_made;
 use epa_stores::put_vertex;
-use epa_stores::set_corner;
 use epa_stores::set_deleted;
-use epa_stores::set_neighbour;
 use heap::Pushed;
 use shape::Vertex;
 
@@ -49,16 +52,41 @@ fn face_room(ids: &[usize], floats: &[f32], deleted: &[u8]) -> usize
     smaller(smaller(ids.len() / 6, floats.len() / 6), deleted.len())
 }
 
-// A face's six numbers are written at the place n.
+// A face's six numbers are written at the place n, which the list has.
 fn put_face(ids: &mut [usize], n: usize, corners: Three, neighbours: Three)
+    requires { ⌜ n * 6 + 6 ≤ length (now ids) ⌝ }
     ensures { λ r. ⌜ now (ids .exit) ≡ putFace (now (ids .entry)) n corners neighbours ⌝ }
 {
-    set_corner(ids, n, 0, corners.a);
-    set_corner(ids, n, 1, corners.b);
-    set_corner(ids, n, 2, corners.c);
-    set_neighbour(ids, n, 0, neighbours.a);
-    set_neighbour(ids, n, 1, neighbours.b);
-    set_neighbour(ids, n, 2, neighbours.c);
+    let at = n * 6;
+    ids[at] = corners.a;
+    ids[at + 1] = corners.b;
+    ids[at + 2] = corners.c;
+    ids[at + 3] = neighbours.a;
+    ids[at + 4] = neighbours.b;
+    ids[at + 5] = neighbours.c;
+}
+
+// A live face is written at the place n, if there is room for it, and the answer is whether there is: `push_face` but for the tally, whatever
+// that is. Who pushes many faces counts them without it.
+pub fn write_face(
+    ids: &mut [usize],
+    floats: &mut [f32],
+    deleted: &mut [u8],
+    n: usize,
+    corners: Three,
+    neighbours: Three,
+    made: Made,
+) -> bool
+    ensures { λ r. ⌜ ((c : Tally) → Leaves (pushFace corners neighbours made) (faceCount n c) (cond r (Onward (faceCount (n + 1) c)) (Ended (NoRoom Faces) (faceCount n c)))
+        (λ m k. withFaceIds (when m ids) (withFaceFloats (when m floats) (withDeleted (when m deleted) k)))) ⌝ }
+{
+    if face_room(ids, floats, deleted) <= n {
+        return false;
+    }
+    put_face(ids, n, corners, neighbours);
+    put_made(floats, n, made);
+    set_deleted(deleted, n, 0);
+    true
 }
 
 // A live face is pushed, where there is room.
@@ -74,12 +102,9 @@ pub fn push_face(
     ensures { λ r. ⌜ Leaves (pushFace corners neighbours made) tally r (λ m k. withFaceIds (when m ids) (withFaceFloats (when m floats) (withDeleted (when m deleted) k))) ⌝ }
 {
     let n = tally.faces;
-    if face_room(ids, floats, deleted) <= n {
+    if !write_face(ids, floats, deleted, n, corners, neighbours, made) {
         return Step::Ended(End::NoRoom(Store::Faces), tally);
     }
-    put_face(ids, n, corners, neighbours);
-    put_made(floats, n, made);
-    set_deleted(deleted, n, 0);
     let mut next = tally;
     next.faces = n + 1;
     Step::Onward(next)
@@ -104,7 +129,7 @@ pub fn enqueue(
 }
 
 // `FaceId::new`: a key above the tolerance is refused. A NaN is not above it.
-fn face_id_new(id: usize, neg_dist: f32, tol: f32) -> MaybeFaceId
+pub fn face_id_new(id: usize, neg_dist: f32, tol: f32) -> MaybeFaceId
     ensures { λ r. ⌜ r ≡ faceIdNew id «neg_dist» tol ⌝ }
 {
     if neg_dist > tol {

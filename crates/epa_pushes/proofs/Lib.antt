@@ -1,0 +1,2 @@
+-- What the pushes' proofs share.
+pub mod Rooms
