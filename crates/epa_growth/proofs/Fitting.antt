@@ -14,7 +14,8 @@ use Rattle.epa_polytope.specs.Steps.{Numbers, Nil, queueFace, answer}
 use Rattle.epa_polytope.specs.Stores.{Lists, State, stateOf, heapOf}
 use Rattle.epa_polytope.proofs.Steps.{Meets, meets-then, meets-look, meets-stop, meets-doIf, meets-link, meets-face, meets-queue, meets-branch}
 use Rattle.epa_polytope.proofs.Ways.{pushed-count}
-use Rattle.epa_pushes.proofs.Rooms.{nothing-else, so-left}
+use Rattle.epa_polytope.proofs.Doing.{nothing-else}
+use Rattle.epa_pushes.proofs.Rooms.{so-left}
 use Rattle.epa_growth.specs.Growth.{counts, grownOut}
 use Rattle.epa_growth.specs.declared.Grown.{Grown}
 use Rattle.epa_growth.specs.declared.Grown.the-variants.{Nothing, Plain, Queued, NoRoomForFace, NoRoomForEntry, KeyRefused, Nearer}

@@ -14,7 +14,7 @@ use Rattle.epa_polytope.specs.Stores.{Lists, faceCount, heapCount}
 use Rattle.epa_growth.specs.declared.Grown.{Grown}
 use Rattle.epa_growth.specs.declared.Grown.the-variants.{Nothing, Plain, Queued, NoRoomForFace, NoRoomForEntry, KeyRefused, Nearer}
 
--- the tally with so many faces and entries of the heap
+-- the tally c with so many faces and entries of the heap: a private function is given these two counts alone, and its contract is for all c
 abbrev pub counts : ℕ → ℕ → Tally → Tally
 counts faces heap c = faceCount faces (heapCount heap c)
 

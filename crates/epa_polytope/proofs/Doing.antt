@@ -1,6 +1,7 @@
 -- Steps in sequence, told of what the code leaves and answers after each (`Does`); and that what a contract says leaves no choice (`does-only`). Assumes nothing.
 use mathlib.Core.Path.{_≡_, refl, sym, ap, subst, _∙_}
 use mathlib.Core.Bool.{Bool, true, false}
+use mathlib.Core.List.{[]}
 use Rattle.epa_polytope.specs.declared.types.Step.{Step}
 use Rattle.epa_polytope.specs.declared.types.Step.the-variants.{Onward, Ended}
 use Rattle.epa_polytope.specs.declared.types.Begun.{Begun}
@@ -13,6 +14,10 @@ use Rattle.epa_polytope.specs.Stores.{Lists, Tally, State, stateOf}
 use Rattle.epa_polytope.specs.Steps.{End, Out, onward, ended, next, Act, Nil, _>>=_, _>>_, look, stopIf, doIf, branch}
 use Rattle.epa_polytope.specs.Contracts.{Does, stepOut, beginOut, visitOut}
 use Rattle.epa_polytope.proofs.Moves.{left}
+
+-- lists for those that a function is not lent, which may be any
+abbrev pub nothing-else : Lists
+nothing-else = record { vertices = []; faceIds = []; faceFloats = []; deleted = []; edges = []; heapIds = []; heapKeys = []; pending = [] }
 
 -- ---- one answer
 

@@ -1,7 +1,6 @@
 -- What `write_face` answers tells of `pushFace`, and where there was room one face more can be counted. Assumes nothing.
 use mathlib.Core.Path.{_≡_, subst, sym}
 use mathlib.Core.Bool.{Bool, true, false, cond}
-use mathlib.Core.List.{[]}
 use native.Mathlib.Omega.{arith}
 use Prim.Native.Nat.{ℕ, _+_, _^_, _<_}
 use lib.ListN.{length}
@@ -18,10 +17,6 @@ use Rattle.epa_polytope.specs.Contracts.{Does, stepOut}
 use Rattle.epa_polytope.specs.Steps.{Out, Act, pushFace}
 use Rattle.epa_polytope.specs.Stores.{Lists, State, stateOf, faceCount}
 use Rattle.epa_polytope.proofs.Steps.{Meets, meets-face}
-
--- lists for those that a function is not lent, which may be any
-abbrev pub nothing-else : Lists
-nothing-else = record { vertices = []; faceIds = []; faceFloats = []; deleted = []; edges = []; heapIds = []; heapKeys = []; pending = [] }
 
 -- what holds of all that a step leaves holds of what the code leaves and answers
 pub so-left : {A R : Type 0} {out : Lists → R → Out A} {a : Act A} {l l' : Lists} {c : Tally} {r : R} {P : A → State → Type 0} {E : End → State → Type 0}

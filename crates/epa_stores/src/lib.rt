@@ -26,17 +26,6 @@ pub fn corner_at(ids: &[usize], i: usize, k: usize) -> usize
     0
 }
 
-pub fn set_corner(ids: &mut [usize], i: usize, k: usize, v: usize)
-    ensures { λ r. ⌜ now (ids .exit) ≡ set (now (ids .entry)) (i * 6 + k) v ⌝ }
-{
-    let n = ids.len();
-    if i <= n / 6 {
-        if k < n - i * 6 {
-            ids[i * 6 + k] = v;
-        }
-    }
-}
-
 // Its neighbour k.
 pub fn neighbour_at(ids: &[usize], i: usize, k: usize) -> usize
     ensures { λ r. ⌜ r ≡ neighbourIn (now (ids .entry)) i k ⌝ }

@@ -1,6 +1,6 @@
 -- The loop is the walk: at each turn what is left of it does the same as all did at first, and something falls. Assumes nothing.
 use mathlib.Core.Path.{refl, ap, _∙_}
-use mathlib.Core.List.{[], List}
+use mathlib.Core.List.{List}
 use lib.Ieee.{Float}
 use Prim.Native.Nat.{ℕ}
 use native.Mathlib.Omega.{arith}
@@ -10,7 +10,7 @@ use Rattle.epa_polytope.specs.Silhouette.{Mesh}
 use Rattle.epa_polytope.specs.PlainWalk.{plainWalk}
 use Rattle.epa_polytope.specs.Expansion.{meshOf}
 use Rattle.epa_polytope.specs.Contracts.{single}
-use Rattle.epa_polytope.proofs.Doing.{place}
+use Rattle.epa_polytope.proofs.Doing.{nothing-else, place}
 use Rattle.epa_polytope.proofs.PlainWalks.{potential}
 use Rattle.epa_polytope.proofs.PlainLoop.{WalkLoop, going, goes, turn-less, walk-short, walk-full, loop-starts, ends-short, ends-full, ends-empty, loop-again as again}
 use Rattle.epa_plain_walk.proofs.plain_walk.Statement.{statement}
@@ -41,10 +41,6 @@ Turned = tie.After-take-turn Inv-loop μ-loop
 
 loop-holds : tie.Need-loop-holds Inv-loop μ-loop
 loop-holds c = loop-starts _ _
-
--- whatever the lists hold that are not lent
-nothing-else : Lists
-nothing-else = record { vertices = []; faceIds = []; faceFloats = []; deleted = []; edges = []; heapIds = []; heapKeys = []; pending = [] }
 
 loop-less : tie.Need-loop-less Inv-loop μ-loop
 loop-less c = turn-less _ _ _ _ _ _ _ (place (tie.In-loop Inv-loop μ-loop) (search) .loop-test .taken) (place Turned (search) .take-turn .ensures nothing-else)

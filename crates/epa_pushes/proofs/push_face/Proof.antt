@@ -4,8 +4,8 @@ use lib.ListN.{length}
 use borrow.Author.Needs.{needs}
 use borrow.Author.Tests.{not-true, not-false}
 use Rattle.epa_polytope.specs.declared.types.Tally.{Tally}
-use Rattle.epa_polytope.proofs.Doing.{place}
-use Rattle.epa_pushes.proofs.Rooms.{nothing-else, refused, written, one-more-fits}
+use Rattle.epa_polytope.proofs.Doing.{nothing-else, place}
+use Rattle.epa_pushes.proofs.Rooms.{refused, written, one-more-fits}
 use Rattle.epa_pushes.proofs.push_face.Statement.{statement}
 use Rattle.epa_pushes.proofs.push_face.Tie as tie
 

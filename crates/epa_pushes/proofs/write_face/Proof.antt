@@ -1,9 +1,8 @@
 -- `write_face` does what `pushFace` does, but for the tally: it is refused, or the face is written. Assumes nothing.
 use mathlib.Core.Path.{refl}
 use native.Mathlib.Omega.{arith}
-use Rattle.epa_polytope.proofs.Doing.{place}
+use Rattle.epa_polytope.proofs.Doing.{nothing-else, place}
 use Rattle.epa_polytope.proofs.Pushing.{face-refused, face-written}
-use Rattle.epa_pushes.proofs.Rooms.{nothing-else}
 use Rattle.epa_pushes.proofs.write_face.Statement.{statement}
 use Rattle.epa_pushes.proofs.write_face.Tie as tie
 

@@ -1,13 +1,11 @@
 -- The walk meets its contract: each way out is the walk's definition unfolded once. How many faces are live falls at both calls. Assumes nothing.
 use Prim.Native.Nat.{ℕ, _<_}
 use mathlib.Core.Path.{refl, sym, ap, _∙_}
-use mathlib.Core.List.{[]}
 use borrow.Author.Needs.{needs}
 use borrow.Fn.Kinds.{In}
 use borrow.Fn.PlainCycle.{Measures, is, falls, and}
-use Rattle.epa_polytope.specs.Stores.{Lists}
 use Rattle.epa_polytope.specs.Silhouette.{zeros, walkedBy}
-use Rattle.epa_polytope.proofs.Doing.{place}
+use Rattle.epa_polytope.proofs.Doing.{nothing-else, place}
 use Rattle.epa_polytope.proofs.Walks.{walk-full, walk-dead, walk-edge, walk-both, fall-first, fall-second}
 use Rattle.epa_silhouette.proofs.compute_silhouette.Reads as reads
 use Rattle.epa_silhouette.proofs.compute_silhouette.Kinds as kinds
@@ -45,10 +43,6 @@ callees t = (
   note-reads.Asked,
   note-reads.Learnt,
 )
-
--- whatever the lists hold that are not lent
-nothing-else : Lists
-nothing-else = record { vertices = []; faceIds = []; faceFloats = []; deleted = []; edges = []; heapIds = []; heapKeys = []; pending = [] }
 
 module _ (t : ℕ) where
   -- the face was live, and fewer are where it is deleted
