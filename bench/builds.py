@@ -10,6 +10,8 @@ OUT = pathlib.Path("target/bench")
 ORACLE = "target/oracle/oracle"
 LIBRARY_DRIVER = OUT / "library"
 NOT_HERE = 3
+# The functions of the program between main and the run that answers a record, each called in one place.
+BELOW_MAIN = "separation::turn", "stream::answer_next"
 # A driver's name: Debian's package, and the compiler's words for it.
 OTHERS = {
     "libccd": ("libccd-dev", ["-lccd", "-lm"]),
@@ -94,10 +96,12 @@ def other(name):
 
 
 def inlining(program):
-    """Whether LLVM has put stream::answer_next into main. Where not, it does not see that the stores are distinct arrays, and the program is slower."""
+    """Whether LLVM has put all that stands between main and the run into main. Where not, it does not see that the stores are distinct arrays, and
+    the program is slower."""
     if not has("nm"):
         return "not known: no nm here"
     symbols = subprocess.run(["nm", program], stdout=subprocess.PIPE, stderr=subprocess.DEVNULL, text=True, errors="replace").stdout.split()
     if "main" not in symbols:
         return "not known: nm finds no symbol main"
-    return "NOT inlined" if any("answer_next" in symbol for symbol in symbols) else "inlined"
+    apart = [name for name in BELOW_MAIN if any(symbol.endswith(name) for symbol in symbols)]
+    return f"NOT inlined: {', '.join(apart)}" if apart else "inlined"
