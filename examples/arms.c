@@ -1,4 +1,4 @@
-/* Two links of two arms: how far apart are they? Prints the line that the program prints for the same case. */
+/* Two links of two arms: how far apart are they? Prints the lines that the program prints for the same cases. */
 #include <separation.h>
 
 #include <math.h>

@@ -266,8 +266,8 @@ typedef struct {
 
 enum separation_certificate {
     SEPARATION_ACCEPTED = 0,
-    SEPARATION_BAD_LENGTH = 9,     /* a hull has not 1 to 64 corners */
-    SEPARATION_OUT_OF_RANGE = 10,  /* a number of a hull or of the direction is none of the grid */
+    SEPARATION_BAD_LENGTH = 9,     /* a hull does not have 1 to 64 corners */
+    SEPARATION_OUT_OF_RANGE = 10,  /* a number of a hull or of the direction is not on the grid */
     SEPARATION_NOT_SEPARATED = 11, /* two corners are not strictly apart along the direction */
 };
 

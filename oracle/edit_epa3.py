@@ -13,7 +13,7 @@ WALK says how the silhouette is walked:
     recursive   as published: compute_silhouette calls itself (the default)
     plain       a loop over a store of pending questions, last in, first out
 
-No edit touches arithmetic or a test of the Rust. An edit whose old text is not found exactly
+No edit touches arithmetic or, but for the ties of ORDER, a test of the Rust. An edit whose old text is not found exactly
 as often as it says stops the script: the published text is then not the one it was made for.
 """
 

@@ -48,7 +48,7 @@ pub enum Outcome {
     ClosestPoints = b'D',
     /// Apart and near, `exact` not asked: the direction in which the search stood as normal.
     Proximity = b'M',
-    /// Farther apart than the largest distance: the direction as normal.
+    /// Farther apart than the largest distance, or the search did not settle: the direction as normal.
     NoIntersection = b'S',
     /// They meet: two points, the normal, and the counts of the run.
     Penetration = b'P',
@@ -231,9 +231,9 @@ pub struct GridVector {
 #[derive(Copy, Clone, Debug, PartialEq, Eq)]
 pub enum Certificate {
     Accepted = 0,
-    /// A hull has not 1 to 64 corners.
+    /// A hull does not have 1 to 64 corners.
     BadLength = 9,
-    /// A number of a hull or of the direction is none of the grid.
+    /// A number of a hull or of the direction is not on the grid.
     OutOfRange = 10,
     /// Two corners are not strictly apart along the direction.
     NotSeparated = 11,

@@ -12,7 +12,7 @@ use lib.Dec.{ltb, leb, eqb}
 use borrow.Author.Tests.{eq-eqb, ne-eqb, lt-ltb, le-ltb, le-leb, lt-leb, ltb-true, leb-true}
 use Rattle.casefile.specs.declared.numbers.NumberAnswer.{NumberAnswer}
 use Rattle.casefile.specs.declared.numbers.NumberAnswer.the-variants.{Read, Bad, Ended}
-use Rattle.casefile.specs.Numbers.{joined, laterIn, firstOf, decodeNumber, encodeIn, encode, limit, Below}
+use Rattle.casefile.specs.Numbers.{joined, laterIn, firstOf, decodeNumber, encodeIn, encode, limit}
 
 -- ---- steps
 
@@ -59,6 +59,12 @@ module _ (s : List ℕ) (at b : ℕ) (here : at < length s) (is : b ≡ getD s a
   first-more h = rw (row, le-ltb b 128 h)
 
 -- ---- how large
+
+-- a number that is read is below m
+abbrev pub Below : ℕ → NumberAnswer → Type 0
+Below m (Read v next) = v < m
+Below m Bad = Unit
+Below m Ended = Unit
 
 pub some : (n : ℕ) → 0 < limit n
 some zero = omega arith

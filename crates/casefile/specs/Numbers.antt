@@ -1,7 +1,7 @@
 -- Numbers of a case file (document 01, "Case file and vote"), as lists of bytes. Definitions only.
 -- A number is groups of seven bits, lowest first; a byte from 128 on says that another follows. At most five groups; the fifth is at most 15; a last
 -- group of zero is allowed only alone.
-use Prim.Native.Nat.{ℕ, zero, suc, _+_, _*_, _/_, _%_, _<_}
+use Prim.Native.Nat.{ℕ, zero, suc, _+_, _*_, _/_, _%_}
 use mathlib.Core.Bool.{cond}
 use mathlib.Core.List.{List, [], _∷_}
 use lib.ListN.{drop, length}
@@ -64,9 +64,3 @@ encode v = encodeIn 4 v
 abbrev pub limit : ℕ → ℕ
 limit zero = 16
 limit (suc n) = 128 * limit n
-
--- a number that is read is below m
-abbrev pub Below : ℕ → NumberAnswer → Type 0
-Below m (Read v next) = v < m
-Below m Bad = Unit
-Below m Ended = Unit

@@ -1,7 +1,7 @@
 -- Records of a case file (document 01, "Case file and vote"): reading, number by number, what they stand for, and writing. Definitions only.
 -- A record is shape kind (0 ball, 1 cuboid, 2 capsule, 3 triangle) and its 1, 3, 7 or 9 numbers; the same for the second; quaternion; translation; start
 -- direction; largest distance; exact flag 0 or 1. Floats travel as their bits: of a NaN the word tells more than the float, so a record is read as words,
--- and the floats are made of them, in a format f.
+-- and the floats are made of them, in a format f. A word has at most five groups, as document 01 has it, whatever f is.
 use Prim.Native.Nat.{ℕ, zero, suc, _+_}
 use mathlib.Core.Bool.{Bool, cond}
 use mathlib.Core.List.{List, [], _∷_, _++_}

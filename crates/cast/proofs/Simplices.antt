@@ -17,8 +17,7 @@ use Rattle.simplex.specs.declared.voronoi_simplex.VoronoiSimplex.{VoronoiSimple
 use Rattle.simplex.specs.declared.operations.Added.{Added as Grown}
 use Rattle.simplex.specs.declared.operations.Answer.{Answer}
 use Rattle.simplex.specs.declared.operations.Answer.the-variants as Added
-use Rattle.simplex.specs.declared.operations.Outcome.{Outcome}
-use Rattle.simplex.specs.declared.operations.Outcome.the-variants as Moved
+use Rattle.simplex.specs.declared.operations.Outcome.the-variants as Outcome
 use Rattle.simplex.specs.Simplex.{isSimplex, newSimplex, resetIn, swapIn, savedIn, grownIn, nearSimplex, translatedIn}
 use Rattle.simplex.specs.Operations.{alteredOr, resetSimplex, addPoint, modifyPnts}
 use Rattle.simplex.proofs.Laws.{Small, small, room}
@@ -39,7 +38,7 @@ use Rattle.cast.specs.declared.ray.Ray.{Ray}
 use Rattle.cast.specs.declared.ray.MaybeTime.{MaybeTime}
 use Rattle.cast.specs.declared.ray.MaybeTime.the-variants as Time
 use Rattle.cast.specs.Ray.{rayToiWithHalfspace}
-use Rattle.cast.specs.Cast.{Search, goesOn, _▷_, onwardWith, endedWith, rayOf, roundOf, impact, beyond, supportPoint, upperBound, lastChance, movedBy, lowered, clippedAt, clipped}
+use Rattle.cast.specs.Cast.{Search, goesOn, _▷_, onwardWith, endedWith, rayOf, roundOf, impact, beyond, supportPoint, upperBound, lastChance, lowered, clippedAt, clipped}
 use Rattle.cast.specs.Cast.{minBoundOf, bounded, addedBy, added, solid, reducedTo, reduced, probed, turnOf, startAt, startOf}
 use Rattle.cast.proofs.Start.{reset-done}
 
@@ -189,13 +188,11 @@ module _ (f : Format) (k : Search) where
       let ltoi = _⊕_ f (r .ltoi) t in
       let shift = scaleV f (r .«curr_ray» .dir) t in
       let ray = rayOf (addV f (r .«curr_ray» .origin) shift) (r .«curr_ray» .dir) in
-      let u = modifyPnts f s (negV shift) in
-      by (beyond f k ltoi) (u .simplex) (u .outcome) (roundOf ltoi ray dir (r .proj) (largest f) false) (modify-small f s (negV shift) h)
+      by (beyond f k ltoi) (modifyPnts f s (negV shift) .simplex) (roundOf ltoi ray dir (r .proj) (largest f) false) (modify-small f s (negV shift) h)
     where
-      by : (b : Bool) (u : VoronoiSimplex) (x : Outcome) (q : Round) → Small u → Small (cond {A = Turn} b (endedWith s Miss) (movedBy f u x q) .simplex)
-      by true u x q m = h
-      by false u Moved.Done q m = m
-      by false u Moved.Refused q m = m
+      by : (b : Bool) (u : VoronoiSimplex) (q : Round) → Small u → Small (cond {A = Turn} b (endedWith s Miss) (onwardWith u q) .simplex)
+      by true u q m = h
+      by false u q m = m
 
   clipped-small : (s : VoronoiSimplex) (r : Round) (dir : Vec3) (v : Vertex) → Small s → Small (clipped f k s r dir v .simplex)
   unfolding clipped
@@ -300,6 +297,6 @@ module _ (f : Format) (k : Search) where
   pub a-simplex : (n : ℕ) → isSimplex (afterTurns n .simplex) ≡ true
   a-simplex n = is-small (afterTurns n .simplex) (stands-small n)
 
-  pub moved-done : (n : ℕ) (d : Vec3) → modifyPnts f (afterTurns n .simplex) d .outcome ≡ Moved.Done
+  pub moved-done : (n : ℕ) (d : Vec3) → modifyPnts f (afterTurns n .simplex) d .outcome ≡ Outcome.Done
   unfolding modifyPnts
   moved-done n d = rw (a-simplex n)

@@ -10,28 +10,26 @@ use lib.Ieee.{Float, Format, lt, le}
 use lib.Ieee.Scale.{finite}
 use Rattle.number.specs.Constants.{epsTol, largest}
 use Rattle.number.specs.Root.{root}
-use Rattle.number.specs.Small.{larger}
+use Rattle.number.specs.Small.{gt, ge, larger}
 use Rattle.vector.specs.declared.vec3.Vec3.{Vec3}
 use Rattle.vector.specs.Vector.{zeroF, oneF, zeroV, negV, addV, subV, scaleV, divV, dotV, lengthV, normalizeAndLengthV, _⊕_, _⊖_, _⊗_, _⊘_}
 use Rattle.shape.specs.declared.vertex.Vertex.{Vertex}
 use Rattle.shape.specs.Vertex.{singlePoint, translateVertex}
 use Rattle.shape.specs.Support.{fromShapes}
 use Rattle.simplex.specs.declared.voronoi_simplex.VoronoiSimplex.{VoronoiSimplex}
-use Rattle.simplex.specs.declared.operations.Outcome.{Outcome}
-use Rattle.simplex.specs.declared.operations.Outcome.the-variants as Moved
 use Rattle.simplex.specs.declared.operations.Answer.{Answer}
-use Rattle.simplex.specs.declared.operations.Answer.the-variants as Added
+use Rattle.simplex.specs.declared.operations.Answer.the-variants as Answer
 use Rattle.simplex.specs.Simplex.{newSimplex}
 use Rattle.simplex.specs.Operations.{resetSimplex, addPoint, modifyPnts}
 use Rattle.reduction.specs.declared.location.Projected.{Projected}
-use Rattle.reduction.specs.declared.location.Projected.the-variants as Projection
+use Rattle.reduction.specs.declared.location.Projected.the-variants as Projected
 use Rattle.reduction.specs.Reduction.{projectOriginAndReduce}
 use Rattle.witnesses.specs.declared.Witnesses.{Witnesses}
-use Rattle.witnesses.specs.declared.Witnesses.the-variants as Points
+use Rattle.witnesses.specs.declared.Witnesses.the-variants as Witnesses
 use Rattle.witnesses.specs.Witnesses.{resultOf}
 use Rattle.cast.specs.declared.ray.Ray.{Ray}
 use Rattle.cast.specs.declared.ray.MaybeTime.{MaybeTime}
-use Rattle.cast.specs.declared.ray.MaybeTime.the-variants as Time
+use Rattle.cast.specs.declared.ray.MaybeTime.the-variants as MaybeTime
 use Rattle.cast.specs.declared.rounds.Cast.{Cast}
 use Rattle.cast.specs.declared.rounds.Cast.the-variants.{Impact, Miss, Refused}
 use Rattle.cast.specs.declared.rounds.Query.{Query}
@@ -103,7 +101,7 @@ module _ (f : Format) where
 
   -- `ltoi / ray_length > max_time_of_impact`
   unfoldable pub beyond : Search → Float → Bool
-  beyond k ltoi = lt (k .maxTime) (_⊘_ f ltoi (k .rayLength))
+  beyond k ltoi = gt (_⊘_ f ltoi (k .rayLength)) (k .maxTime)
 
   -- `if max_bound >= old_max_bound { .. CsoPoint::single_point(proj + curr_ray.origin) } else { CsoPoint::from_shapes(..) }`
   unfoldable pub supportPoint : Search → Round → Vec3 → Bool → Vertex
@@ -120,22 +118,17 @@ module _ (f : Format) where
   witnessed k r witness1 witness2 =
       let witnessLtoi = dotV f (subV f (subV f witness1 witness2) (k .ray .origin)) (r .«curr_ray» .dir) in
       let refined = roundOf witnessLtoi (r .«curr_ray») (r .ldir) (r .proj) (r .«max_bound») (r .«last_chance») in
-      cond (finite witnessLtoi && lt (r .ltoi) witnessLtoi) (cond (beyond k witnessLtoi) Miss (impact k refined)) (impact k r)
+      cond (finite witnessLtoi && gt witnessLtoi (r .ltoi)) (cond (beyond k witnessLtoi) Miss (impact k refined)) (impact k r)
 
   -- `result(simplex, simplex.dimension() == DIM)`
   abbrev pub lastChanceBy : Search → Round → Witnesses → Cast
-  lastChanceBy k r (Points.At witness1 witness2) = witnessed k r witness1 witness2
-  lastChanceBy k r Points.Refused = Refused
+  lastChanceBy k r (Witnesses.At witness1 witness2) = witnessed k r witness1 witness2
+  lastChanceBy k r Witnesses.Refused = Refused
 
   unfoldable pub lastChance : Search → VoronoiSimplex → Round → Cast
   lastChance k s r = lastChanceBy k r (resultOf f s (eqb (s .dim) 3))
 
   -- ---- `match query::details::ray_toi_with_halfspace(support_point.point, dir, &curr_ray)`
-
-  -- `simplex.modify_pnts(&|pt| pt.translate_mut(-shift))`: a simplex is never refused
-  abbrev pub movedBy : VoronoiSimplex → Outcome → Round → Turn
-  movedBy s Moved.Done r = onwardWith s r
-  movedBy s Moved.Refused r = endedWith s Refused
 
   -- a new lower bound: `ldir = dir; ltoi += t`, and the origin moves, the simplex with it
   unfoldable pub lowered : Search → VoronoiSimplex → Round → Vec3 → Float → Turn
@@ -143,12 +136,13 @@ module _ (f : Format) where
       let ltoi = _⊕_ f (r .ltoi) t in
       let shift = scaleV f (r .«curr_ray» .dir) t in
       let currRay = rayOf (addV f (r .«curr_ray» .origin) shift) (r .«curr_ray» .dir) in
-      let u = modifyPnts f s (negV shift) in
-      cond (beyond k ltoi) (endedWith s Miss) (movedBy (u .simplex) (u .outcome) (roundOf ltoi currRay dir (r .proj) (largest f) false))
+      -- `simplex.modify_pnts(&|pt| pt.translate_mut(-shift))`, which is never refused here (`moved-done` of proofs/Simplices.antt)
+      let moved = modifyPnts f s (negV shift) .simplex in
+      cond (beyond k ltoi) (endedWith s Miss) (onwardWith moved (roundOf ltoi currRay dir (r .proj) (largest f) false))
 
   abbrev pub clippedAt : Search → VoronoiSimplex → Round → Vec3 → Float → MaybeTime → Turn
-  clippedAt k s r dir along (Time.Some t) = cond (lt along zeroF && lt zeroF t) (lowered k s r dir t) (onwardWith s r)
-  clippedAt k s r dir along Time.None = cond (lt (epsTol f) along) (endedWith s Miss) (onwardWith s r)
+  clippedAt k s r dir along (MaybeTime.Some t) = cond (lt along zeroF && gt t zeroF) (lowered k s r dir t) (onwardWith s r)
+  clippedAt k s r dir along MaybeTime.None = cond (gt along (epsTol f)) (endedWith s Miss) (onwardWith s r)
 
   unfoldable pub clipped : Search → VoronoiSimplex → Round → Vec3 → Vertex → Turn
   clipped k s r dir support = clippedAt k s r dir (dotV f dir (r .«curr_ray» .dir)) (rayToiWithHalfspace f (support .point) dir (r .«curr_ray»))
@@ -169,9 +163,9 @@ module _ (f : Format) where
 
   -- `let _ = simplex.add_point(support_point.translate(-curr_ray.origin))`
   abbrev pub addedBy : VoronoiSimplex → Answer → Round → Turn
-  addedBy s Added.Yes r = onwardWith s r
-  addedBy s Added.No r = onwardWith s r
-  addedBy s Added.Refused r = endedWith s Refused
+  addedBy s Answer.Yes r = onwardWith s r
+  addedBy s Answer.No r = onwardWith s r
+  addedBy s Answer.Refused r = endedWith s Refused
 
   unfoldable pub added : VoronoiSimplex → Round → Vertex → Turn
   added s r support =
@@ -182,14 +176,14 @@ module _ (f : Format) where
   unfoldable pub solid : Search → Round → Float → Vertex → Cast
   solid k r minBound support =
       let scale = larger (lengthV f (support .point)) (lengthV f (r .«curr_ray» .origin)) in
-      cond (le (_⊗_ f (epsTol f) (larger scale oneF)) minBound) Miss (impact k r)
+      cond (ge minBound (_⊗_ f (epsTol f) (larger scale oneF))) Miss (impact k r)
 
   -- `proj = simplex.project_origin_and_reduce()`
   abbrev pub reducedTo : Search → VoronoiSimplex → Projected → Round → Float → Vertex → Turn
-  reducedTo k s (Projection.At proj location) r minBound support =
+  reducedTo k s (Projected.At proj location) r minBound support =
       cond (eqb (s .dim) 3) (endedWith s (solid k r minBound support))
       (onwardWith s (roundOf (r .ltoi) (r .«curr_ray») (r .ldir) proj (r .«max_bound») (r .«last_chance»)))
-  reducedTo k s Projection.Refused r minBound support = endedWith s Refused
+  reducedTo k s Projected.Refused r minBound support = endedWith s Refused
 
   unfoldable pub reduced : Search → VoronoiSimplex → Round → Float → Vertex → Turn
   reduced k s r minBound support = let t = projectOriginAndReduce f s in reducedTo k (t .simplex) (t .projection) r minBound support
@@ -199,7 +193,7 @@ module _ (f : Format) where
   -- from `if last_chance && ltoi > 0.0` on
   unfoldable pub probed : Search → VoronoiSimplex → Round → Vec3 → Vertex → Turn
   probed k s r dir support =
-      cond (r .«last_chance» && lt zeroF (r .ltoi)) (endedWith s (lastChance k s r))
+      cond (r .«last_chance» && gt (r .ltoi) zeroF) (endedWith s (lastChance k s r))
       (clipped k s r dir support ▷ λ s₁ r₁.
       bounded k s₁ r₁ (minBoundOf r₁ dir support) ▷ λ s₂ r₂.
       added s₂ r₂ support ▷ λ s₃ r₃.
@@ -211,8 +205,8 @@ module _ (f : Format) where
       let unit = normalizeAndLengthV f (negV (r .proj)) in
       let dir = unit .normalized in
       let dist = unit .length in
-      let stuck = le (r .«max_bound») dist in
-      cond (lt (epsTol f) dist) (probed k s (upperBound r dist stuck) dir (supportPoint k r dir stuck)) (endedWith s (impact k r))
+      let stuck = ge dist (r .«max_bound») in
+      cond (gt dist (epsTol f)) (probed k s (upperBound r dist stuck) dir (supportPoint k r dir stuck)) (endedWith s (impact k r))
 
   -- ---- the rounds: n are left, and at none `if niter == 100 { return None }`
   unfoldable pub runOf : Search → ℕ → VoronoiSimplex → Round → Cast
@@ -221,8 +215,8 @@ module _ (f : Format) where
 
   -- ---- what stands before the loop
   abbrev pub startAt : Ray → VoronoiSimplex → Projected → Turn
-  startAt ray s (Projection.At proj location) = onwardWith s (roundOf zeroF ray (negV (ray .dir)) proj (largest f) false)
-  startAt ray s Projection.Refused = endedWith s Refused
+  startAt ray s (Projected.At proj location) = onwardWith s (roundOf zeroF ray (negV (ray .dir)) proj (largest f) false)
+  startAt ray s Projected.Refused = endedWith s Refused
 
   unfoldable pub startOf : Search → Turn
   startOf k =

@@ -16,7 +16,6 @@ use shape::Shape;
 use shape::Vertex;
 use shape::from_shapes;
 use simplex::Answer;
-use simplex::Outcome;
 use simplex::VoronoiSimplex;
 use vector::Pose;
 use vector::Vec3;
@@ -128,7 +127,7 @@ fn witnessed_at(q: Query, r: Round, witness1: Vec3, witness2: Vec3) -> Cast
     impact_at(q, r)
 }
 
-// The last-chance path: the impact is accepted, at the refined bound.
+// The last-chance path: the impact is accepted at the refined bound, or missed where that is past the largest time.
 fn last_chance_of(q: Query, simplex: VoronoiSimplex, r: Round) -> Cast
     ensures { λ c. ⌜ c ≡ lastChance binary32 (searchOf binary32 q) simplex r ⌝ }
 {
@@ -150,9 +149,9 @@ fn lowered_turn(q: Query, simplex: VoronoiSimplex, r: Round, dir: Vec3, t: f32) 
     let along = curr_ray.dir;
     let from = curr_ray.origin;
     let shift = along.scale(t);
+    // a simplex is never refused, so the answer is not looked at (`moved-done` of proofs/Simplices.antt)
     let moved = simplex.modify_pnts(shift.neg());
     let shifted = moved.simplex;
-    let outcome = moved.outcome;
     let origin = from.add(shift);
     let proj = r.proj;
     let restored = number::largest();
@@ -164,10 +163,7 @@ fn lowered_turn(q: Query, simplex: VoronoiSimplex, r: Round, dir: Vec3, t: f32) 
         max_bound: restored,
         last_chance: false,
     };
-    match outcome {
-        Outcome::Done => onward(shifted, next),
-        Outcome::Refused => ended(shifted, Cast::Refused),
-    }
+    onward(shifted, next)
 }
 
 // The ray is clipped on the halfspace of the support point.
@@ -312,7 +308,8 @@ fn probed_turn(
     reduced_turn(q, larger, g, min_bound, support_point)
 }
 
-// One turn of the Rust's loop. A NaN distance is not above the tolerance: an impact.
+// One turn of the Rust's loop. Where the length is a NaN or infinite, `normalize_and_length` gives 0, which is not above the
+// tolerance: an impact.
 fn turn_of(q: Query, simplex: VoronoiSimplex, r: Round) -> Turn
     ensures { λ u. ⌜ u ≡ turnOf binary32 (searchOf binary32 q) simplex r ⌝ }
 {

@@ -11,7 +11,7 @@ use Rattle.simplex.specs.declared.voronoi_simplex.VoronoiSimplex.{VoronoiSimple
 use Rattle.simplex.specs.Simplex.{newSimplex}
 use Rattle.simplex.specs.Operations.{resetSimplex}
 use Rattle.gjk.specs.declared.rounds.GJKResult.{GJKResult}
-use Rattle.gjk.specs.declared.rounds.GJKResult.the-variants as Gjk
+use Rattle.gjk.specs.declared.rounds.GJKResult.the-variants as GJKResult
 use Rattle.gjk.specs.declared.rounds.Gjk.{Gjk}
 use Rattle.gjk.specs.Gjk.{closestPoints}
 use Rattle.epa_polytope.specs.Stores.{Lists}
@@ -19,7 +19,7 @@ use Rattle.epa_polytope.specs.declared.types.Walk.the-variants.{Plain as plain}
 use Rattle.epa.specs.Final.{Final, final, answered, penetration}
 use Rattle.lines.specs.declared.line.Counts.{Counts}
 use Rattle.lines.specs.declared.line.Outcome.{Outcome}
-use Rattle.lines.specs.declared.line.Outcome.the-variants as Told
+use Rattle.lines.specs.declared.line.Outcome.the-variants as Outcome
 use Rattle.outcome.specs.Outcome.{outcomeOf}
 
 -- a new simplex, reset to the support point of the start direction
@@ -32,13 +32,13 @@ distance f m g1 g2 dir maxDist exact = closestPoints f (fromShapes f m g1 g2) ma
 
 -- What is made of GJK's result: letters D, M, S and X, with the lists kept; or where the shapes meet, the run of the polytope
 abbrev pub byResult : GJKResult → Final Outcome → (Outcome → Final Outcome) → Final Outcome
-byResult Gjk.Intersection meeting kept = meeting
-byResult (Gjk.ClosestPoints p1 p2 d) meeting kept = kept (Told.ClosestPoints p1 p2 d)
-byResult (Gjk.Proximity d) meeting kept = kept (Told.Proximity d)
-byResult (Gjk.NoIntersection d) meeting kept = kept (Told.NoIntersection d)
-byResult Gjk.Refused meeting kept = kept Told.Panic
+byResult GJKResult.Intersection meeting kept = meeting
+byResult (GJKResult.ClosestPoints p1 p2 d) meeting kept = kept (Outcome.ClosestPoints p1 p2 d)
+byResult (GJKResult.Proximity d) meeting kept = kept (Outcome.Proximity d)
+byResult (GJKResult.NoIntersection d) meeting kept = kept (Outcome.NoIntersection d)
+byResult GJKResult.Refused meeting kept = kept Outcome.Panic
 
--- the lists that a run of GJK finds. The polytope's run starts from the simplex that it left
+-- after a run g of GJK, over lent lists: where the shapes meet, the polytope's run from the simplex that g left; elsewhere the lists are kept
 abbrev pub separatedBy : Format → Gjk → Pose → Shape → Shape → Lists → Final Outcome
 separatedBy f g m g1 g2 l = byResult (g .result) (answered outcomeOf (penetration plain f m g1 g2 (g .simplex) l)) (λ o. final o l)
 
@@ -48,4 +48,4 @@ separated f m g1 g2 dir maxDist exact l = separatedBy f (distance f m g1 g2 dir 
 
 -- an outcome that is not refused for room: its letter is not R
 abbrev pub Placed : Outcome → Type 0
-Placed o = (c : Counts) → o ≡ Told.NoPlace c → ⊥
+Placed o = (c : Counts) → o ≡ Outcome.NoPlace c → ⊥

@@ -1,4 +1,4 @@
-// The silhouette's store as the scope document has it, a list of records, each a face number and a corner, lent as a slice. What
+// The silhouette's store as document 01 has it, a list of records, each a face number and a corner, lent as a slice. What
 // works on one row of numbers, two places an edge, is handed the records by value, and its row is written back over them.
 ghost use mathlib.Core.Path.{_≡_};
 ghost use Prim.Native.Nat.{min};

@@ -25,7 +25,7 @@ use vector::Pose;
 use vector::Vec3;
 use vote::Answer;
 
-// The channel over the numbers of the edges, once both kinds are known.
+// The channel over the numbers of the edges. A kind above 3 is answered as malformed, and the stores stay as they are.
 fn run_numbers(
     pos12: Pose,
     g1: ShapeRecord,

@@ -1,4 +1,5 @@
--- What `Face::new` of src/query/epa/epa3.rs takes of the projection of the origin on its triangle, for the private functions that compute it. Definitions only; who reads the public contracts need not read them.
+-- What `Face::new` of src/query/epa/epa3.rs takes of the projection of the origin on its triangle, for the private functions that compute it.
+-- Definitions only; who reads the public contracts need not read them.
 use lib.Ieee.{Float, Format}
 use Rattle.number.specs.Constants.{polytopeTol}
 use Rattle.vector.specs.declared.vec3.Vec3.{Vec3}

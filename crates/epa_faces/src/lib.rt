@@ -22,7 +22,7 @@ use epa_stores::neighbour_at;
 use epa_stores::normal_of;
 use epa_stores::vertex_at;
 use epa_stores::weights_of;
-pub use face::face_new;
+use face::face_new;
 use projection::Triangle;
 use vector::Vec3;
 

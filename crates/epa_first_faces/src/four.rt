@@ -98,7 +98,7 @@ fn queue_start(
     Step::Onward(tally)
 }
 
-// Two starting faces, one after the other; the second is left where the first ends the run.
+// Two starting faces, one after the other; the second is left out where the first ends the run.
 fn queue_two(
     vertices: &[f32],
     floats: &[f32],

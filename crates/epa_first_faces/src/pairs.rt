@@ -1,5 +1,5 @@
-// Faces pushed two at a time (`self.faces.push` of epa3.rs, in "Initialization"): either start makes an even number of them, and what
-// is proved of a function grows with the square of the calls that lend the lists.
+// Faces pushed two at a time (`self.faces.push` of epa3.rs, in "Initialization"): either start makes an even number of them, and the
+// time of a function's check grows with the square of the calls to which it lends the lists.
 ghost use Rattle.epa_polytope.specs.Stores.{withFaceIds, withFaceFloats, withDeleted};
 ghost use Rattle.epa_polytope.specs.Contracts.{Leaves, when};
 ghost use Rattle.epa_polytope.specs.Code.{pushTwo};
@@ -9,7 +9,7 @@ use epa_polytope::Tally;
 use epa_polytope::Three;
 use epa_pushes::push_face;
 
-// Two faces are pushed, one after the other; the second is not where the first ends the run.
+// Two faces are pushed, one after the other; the second is left out where the first ends the run.
 pub fn push_two(
     ids: &mut [usize],
     floats: &mut [f32],

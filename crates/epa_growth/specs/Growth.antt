@@ -1,4 +1,5 @@
--- What the answers of this crate's private functions tell of a step of the run, the new faces of an expansion (the loop of `EPA::closest_points` of src/query/epa/epa3.rs). Definitions only; who reads the public contract need not read them.
+-- What the answers of this crate's private functions tell of a step of the run, the new faces of an expansion (the loop of `EPA::closest_points` of src/query/epa/epa3.rs).
+-- Definitions only; who reads the public contract need not read them.
 use Prim.Native.Nat.{ℕ, _+_}
 use Rattle.epa_polytope.specs.declared.types.End.the-variants.{Nothing as Without, NoRoom}
 use Rattle.epa_polytope.specs.declared.types.Expansion.{Expansion}

@@ -1,4 +1,4 @@
-// The new faces along the silhouette (from the body of the loop of `EPA::closest_points`).
+// The new faces along the silhouette: `for edge in &self.silhouette` in the loop of `EPA::closest_points` of epa3.rs.
 ghost use mathlib.Core.Path.{_≡_};
 ghost use Prim.Native.Nat.{_+_};
 ghost use Rattle.epa_polytope.specs.Stores.{withVertices, withFaceIds, withFaceFloats, withDeleted, withHeap};

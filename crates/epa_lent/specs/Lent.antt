@@ -17,11 +17,12 @@ use Rattle.epa.specs.Final.{Final, final, listsOf}
 abbrev pub recordsLent : Moment → Lent Float → Lent ℕ → Lent Float → Lent ℕ → Lent Edge → Lent ℕ → Lent Float → Lent ℕ → Lists
 recordsLent m v i x d es hi hk p = listsOf (when m v) (when m i) (when m x) (when m d) (pairsOf (when m es)) (when m hi) (when m hk) (when m p)
 
--- seven, and the numbers of a row, which one function is handed and another comes back from it
+-- one value when a function is called, another when it returns: of a row, which goes in and comes back by value
 abbrev pub either : {X : Type 0} → Moment → X → X → X
 either called x y = x
 either returned x y = y
 
+-- seven lists, and the numbers of a row
 abbrev pub rowLent : Moment → Lent Float → Lent ℕ → Lent Float → Lent ℕ → Row → Lent ℕ → Lent Float → Lent ℕ → Lists
 rowLent m v i x d r hi hk p = listsOf (when m v) (when m i) (when m x) (when m d) (numbersOf r) (when m hi) (when m hk) (when m p)
 

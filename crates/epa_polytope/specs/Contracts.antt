@@ -26,7 +26,7 @@ use Rattle.epa_polytope.specs.Run.{Best}
 abbrev pub single : Numbers
 single = numbersOf binary32
 
--- and two shapes over them, by the given walk
+-- and two shapes over them: by the recursive walk, and by a given one
 abbrev pub singleWorld : Pose → Shape → Shape → World
 singleWorld = worldOf binary32
 

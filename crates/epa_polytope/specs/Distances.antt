@@ -77,7 +77,7 @@ Every Q (x ∷ l) = Q x × Every Q l
 abbrev pub distanceOf : Entry → Float
 distanceOf e = neg (e .key)
 
--- THE DISTANCES NEVER GET SMALLER: each is at most every later one (`le` is Rust's `<=`, so that none of them is NaN)
+-- THE DISTANCES NEVER GET SMALLER: each is at most every later one (`le` is Rust's `<=`, false of a NaN: of two or more none is NaN)
 abbrev pub NeverFalls : List Entry → Type 0
 NeverFalls [] = Unit {0}
 NeverFalls (e ∷ l) = Every (λ later. le (distanceOf e) (distanceOf later) ≡ true) l × NeverFalls l

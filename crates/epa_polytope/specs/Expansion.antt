@@ -4,8 +4,9 @@ use mathlib.Core.Bool.{Bool, true, false, _||_}
 use mathlib.Core.List.{List}
 use lib.ListN.{getD, set}
 use lib.Dec.{eqb}
-use lib.Ieee.{Format, lt, le, neg}
+use lib.Ieee.{Format, lt, neg}
 use Rattle.number.specs.Constants.{epsTol}
+use Rattle.number.specs.Small.{ge}
 use Rattle.vector.specs.Vector.{subV, dotV}
 use Rattle.projection.specs.Triangle.{isAffinelyDependent}
 use Rattle.epa_polytope.specs.Stores.{Lists, State, Tally, stateOf, withFaceIds, withDeleted, withEdges, withPending, edgeCount, pendingCount, mostCount, missedCount}
@@ -33,7 +34,7 @@ canBeSeenBy f l point q =
     let p1 = vertexAt (l .vertices) (cornerIn (l .faceIds) (q .face) ((q .corner + 1) % 3)) .point in
     let p2 = vertexAt (l .vertices) (cornerIn (l .faceIds) (q .face) ((q .corner + 2) % 3)) .point in
     let pt = vertexAt (l .vertices) point .point in
-    le (neg (epsTol f)) (dotV f (subV f pt p0) (normalOf (l .faceFloats) (q .face))) || isAffinelyDependent f (record { a = p1; b = p2; c = pt })
+    ge (dotV f (subV f pt p0) (normalOf (l .faceFloats) (q .face))) (neg (epsTol f)) || isAffinelyDependent f (record { a = p1; b = p2; c = pt })
 
 -- the tally and the state after a pass of which n edges are recorded, and so many questions still held
 abbrev pub passedTally : ℕ → ℕ → ℕ → Tally → Tally
@@ -43,7 +44,7 @@ abbrev pub afterPass : State → Walking → ℕ → State
 afterPass s t n =
     stateOf (withDeleted (t .walk .deleted) (withEdges (t .walk .edges) (withPending (t .pending) (s .lists)))) (passedTally n (t .held) (t .walk .missed) (s .tally))
 
--- it goes on, unless there was no place for a question, or none for an edge
+-- the run goes on, unless there was no place for a question, or none for an edge
 abbrev pub passedIf : Bool → WalkAnswer → State → Out Nil
 passedIf true a t = ended (noRoom thePending) t
 passedIf false (Done n) t = onward tt t
@@ -89,7 +90,7 @@ queueNew w u i = do
   let dist = dotV (w .format) (normalAt s i) (pointAt s (cornerAt s i 0))
   branch (lt dist (u .dist)) (answer w newFaceNearer (u .face)) (queueFace keyLater (u .tol) i (neg dist))
 
--- the face between the new vertex and the edge of the face f at its corner c
+-- the face between the new vertex and the edge of the face f opposite its corner c (`edge.opp_pt_id`)
 unfoldable pub growAt : Numbers → Expansion → ℕ → ℕ → Act Nil
 growAt w u f c = do
   s ← look

@@ -7,16 +7,16 @@ use Rattle.vector.specs.Vector.{zeroV, vec3, subV, crossV, normalizeOrZeroV}
 use Rattle.projection.specs.declared.triangle.TrianglePointLocation.{TrianglePointLocation}
 use Rattle.projection.specs.declared.triangle.TrianglePointLocation.the-variants.{OnVertex, OnEdge, OnFace, OnSolid}
 use Rattle.projection.specs.declared.triangle.BarycentricCoordinates.{BarycentricCoordinates}
-use Rattle.projection.specs.declared.triangle.BarycentricCoordinates.the-variants as Weights
+use Rattle.projection.specs.declared.triangle.BarycentricCoordinates.the-variants as BarycentricCoordinates
 use Rattle.projection.specs.Triangle.{projectTriangle, barycentricCoordinates}
 use Rattle.projection.specs.Inside.{withinOrigin}
 use Rattle.epa_polytope.specs.declared.types.Made.{Made}
 
 -- `barycentric_coordinates().unwrap()`. It never panics (`never-unwraps-none` of the crate `projection`). Solid has zeros.
 unfoldable pub weightsOr : BarycentricCoordinates → Vec3
-weightsOr (Weights.Some u v w) = vec3 u v w
-weightsOr Weights.None = zeroV
-weightsOr Weights.Refused = zeroV
+weightsOr (BarycentricCoordinates.Some u v w) = vec3 u v w
+weightsOr BarycentricCoordinates.None = zeroV
+weightsOr BarycentricCoordinates.Refused = zeroV
 
 -- whether the face holds the projection: it does at a location inside, not where it is solid, and at a corner or on an edge if that lies at the origin
 unfoldable pub holdsAt : Bool → TrianglePointLocation → Bool

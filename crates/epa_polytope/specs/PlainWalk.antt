@@ -67,7 +67,7 @@ unfoldable pub turns : ℕ → Mesh → Walking → Walking
 turns zero m s = s
 turns (suc n) m s = turns n m (turn m s)
 
--- the walk: after so many turns nothing is left to do (`turns-done` of proofs/PlainWalks.antt)
+-- the walk: after so many turns nothing is left to do (`plain-rests` of proofs/PlainWalks.antt)
 unfoldable pub plainWalk : Mesh → Walking → Walking
 plainWalk m s = turns (s .held + 3 * zeros (s .walk .deleted)) m s
 

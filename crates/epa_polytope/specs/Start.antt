@@ -4,9 +4,9 @@ use mathlib.Core.Bool.{Bool, cond, not, _||_}
 use mathlib.Core.List.{List}
 use mathlib.Core.Option.{Option, none, some}
 use lib.Dec.{eqb}
-use lib.Ieee.{Float, Format, lt, neg}
+use lib.Ieee.{Float, Format, neg}
 use Rattle.number.specs.Constants.{epsTol}
-use Rattle.number.specs.Small.{absolute, larger}
+use Rattle.number.specs.Small.{gt, absolute, larger}
 use Rattle.vector.specs.declared.vec3.Vec3.{Vec3}
 use Rattle.vector.specs.Vector.{vec3, zeroF, oneF, zeroV, xV, yV, zV, negV, subV, dotV, crossV, lengthSquaredV, lengthV, normalizeV, normalizeOrZeroV, equalV, _⊗_}
 use Rattle.vector.specs.declared.pose.Pose.{Pose}
@@ -56,7 +56,7 @@ direction i =
 
 -- whether a vertex lies far enough from p: the squared distance is strictly above `sep_tol * sep_tol`
 unfoldable pub farFrom : Format → Vec3 → Vertex → Bool
-farFrom f p v = lt (_⊗_ f (epsTol f) (epsTol f)) (lengthSquaredV f (subV f (v .point) p))
+farFrom f p v = gt (lengthSquaredV f (subV f (v .point) p)) (_⊗_ f (epsTol f) (epsTol f))
 
 -- `find_map`: the vertex of the first of n directions, from the i-th on, that lies far enough from p
 unfoldable pub firstFar : World → Vec3 → ℕ → ℕ → Option Vertex
@@ -101,7 +101,7 @@ windsInward f l =
     let dp1 = subV f (vertexAt l 1 .point) p0 in
     let dp2 = subV f (vertexAt l 2 .point) p0 in
     let dp3 = subV f (vertexAt l 3 .point) p0 in
-    lt zeroF (dotV f (crossV f dp1 dp2) dp3)
+    gt (dotV f (crossV f dp1 dp2) dp3) zeroF
 
 -- `self.vertices.swap(1, 2)`
 unfoldable pub exchanged : List Float → List Float
@@ -112,7 +112,7 @@ exchange = do
   s ← look
   put (stateOf (withVertices (exchanged (s .lists .vertices)) (s .lists)) (s .tally))
 
--- four faces, each to each
+-- four faces, each the neighbour of the others
 unfoldable pub fourFaces : Made → Made → Made → Made → Act Nil
 fourFaces m1 m2 m3 m4 = do
   pushFace (three 0 1 2) (three 3 1 2) m1
@@ -127,7 +127,7 @@ queueStart w tol i holds =
       s ← look
       queueFace keyAtStart tol i (neg (dotV (w .format) (normalAt s i) (pointAt s i)))
 
--- one has to
+-- those of the four that hold the projection are queued, in order; one at least has to hold it
 unfoldable pub queueFour : Numbers → Float → Bool → Bool → Bool → Bool → Act Nil
 queueFour w tol h1 h2 h3 h4 = do
   queueStart w tol 0 h1
@@ -153,7 +153,7 @@ startFour w tol = do
 -- a vector across v: the first that `orthonormal_subspace_basis` of src/math/mod.rs finds
 unfoldable pub across : Format → Vec3 → Vec3
 across f v =
-    normalizeV f (cond (lt (absolute (v .z)) (absolute (v .x))) (vec3 (neg (v .y)) (v .x) zeroF) (vec3 zeroF (neg (v .z)) (v .y)))
+    normalizeV f (cond (gt (absolute (v .x)) (absolute (v .z))) (vec3 (neg (v .y)) (v .x) zeroF) (vec3 zeroF (neg (v .z)) (v .y)))
 
 -- two vertices get a third, in a direction across them. Where they span none, `vertices[2]` panics in the first face
 unfoldable pub third : World → Act Nil

@@ -1,11 +1,12 @@
--- The steps of a run, and the pushes that all of it is made of: of src/query/epa/epa3.rs the `push` of each store, `FaceId::new`, and the two points of a face. Definitions only.
+-- The steps of a run, and the pushes that all of it is made of: of src/query/epa/epa3.rs the `push` of vertices, faces and heap, `FaceId::new`, and `Face::closest_points`. Definitions only.
 -- A step takes the state, and goes on with a value and the state that it leaves, or ends the run. In a `do` block each line is a step, in order: `s ← look` names the state as it is at that line,
 -- `put t` makes t the state, `stopIf b e` ends the run with e if b holds, and no later line is taken; `doIf` is if, `branch` if-else, `>>` then, and `pure x` hands x on.
 use Prim.Native.Nat.{ℕ, _+_}
 use mathlib.Core.Bool.{Bool, true, false, cond}
 use lib.ListN.{set}
 use lib.Dec.{leb}
-use lib.Ieee.{Float, Format, lt}
+use lib.Ieee.{Float, Format}
+use Rattle.number.specs.Small.{gt}
 use Rattle.vector.specs.declared.vec3.Vec3.{Vec3}
 use Rattle.vector.specs.Vector.{addV, scaleV}
 use Rattle.shape.specs.declared.vertex.Vertex.{Vertex}
@@ -134,12 +135,12 @@ enqueue id negDist = do
 
 -- `FaceId::new`: none, for a key above the tolerance
 unfoldable pub faceIdNew : ℕ → Float → Float → MaybeFaceId
-faceIdNew id negDist tol = cond (lt tol negDist) MaybeFaceId.None (MaybeFaceId.Some (record { id = id; «neg_dist» = negDist }))
+faceIdNew id negDist tol = cond (gt negDist tol) MaybeFaceId.None (MaybeFaceId.Some (record { id = id; «neg_dist» = negDist }))
 
 -- `self.heap.push(FaceId::new(id, neg_dist, tol)?)`: a key above the tolerance is refused
 unfoldable pub queueFace : Lost → Float → ℕ → Float → Act Nil
 queueFace why tol id negDist = do
-  stopIf (lt tol negDist) (nothing why)
+  stopIf (gt negDist tol) (nothing why)
   enqueue id negDist
 
 -- ---- the answer

@@ -1,5 +1,6 @@
-// The pushes of the polytope's run, over lists that the caller lends: a vertex, a face, and a face's entry in the heap, each refused
-// where its store has no place left. What each leaves and answers is a step of the run that the crate `epa_polytope` defines.
+// The pushes of the polytope's run (`self.vertices.push`, `self.faces.push`, `self.heap.push` and `FaceId::new` of epa3.rs), over lists that
+// the caller lends, each refused where its store has no place left. What each leaves and answers is a step of the run that the crate
+// `epa_polytope` defines.
 ghost use mathlib.Core.Path.{_≡_};
 ghost use mathlib.Core.Bool.{cond};
 ghost use Prim.Native.Nat.{_+_, _*_, _≤_, min};
@@ -67,7 +68,7 @@ fn put_face(ids: &mut [usize], n: usize, corners: Three, neighbours: Three)
 }
 
 // A live face is written at the place n, if there is room for it, and the answer is whether there is: `push_face` but for the tally, whatever
-// that is. Who pushes many faces counts them without it.
+// that is. A caller that pushes many faces keeps their count itself.
 pub fn write_face(
     ids: &mut [usize],
     floats: &mut [f32],

@@ -95,7 +95,7 @@ fn bootstrap(vertices: &mut [f32], tally: Tally, pos12: Pose, g1: Shape, g2: Sha
     push_vertex(vertices, tally, pt)
 }
 
-// The vertices that a run starts from, but for the third of a start from two. A simplex it has to be, before all else.
+// The vertices that a run starts from, but for the third of a start from two. That the value given is a simplex is tested before all else.
 pub fn start_vertices(
     vertices: &mut [f32],
     tally: Tally,

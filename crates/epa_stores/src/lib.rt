@@ -1,6 +1,6 @@
-// Reads and writes of the lent lists. A place that a list hasn't got reads as 0, as NaNs, or as deleted, and a
-// write to it does nothing: so these ask nothing of their caller. Between two expansions every number
-// that a list holds is in range (`in-range` of the crate `epa_polytope`).
+// Reads and writes of the lent lists, which hold the fields of `EPA`, `Face` and `SilhouetteEdge` of epa3.rs. A place that a list hasn't
+// got reads as 0, as NaNs, or as deleted, and a write to it does nothing: so these ask nothing of their caller. Between two
+// expansions every number that a list holds is in range (`in-range` of the crate `epa_polytope`).
 ghost use mathlib.Core.Path.{_≡_};
 ghost use Prim.Native.Nat.{_+_, _-_, _*_, _≤_};
 ghost use mathlib.Core.List.{[]};

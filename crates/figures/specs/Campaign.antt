@@ -2,7 +2,7 @@
 use Prim.Native.Nat.{ℕ}
 use mathlib.Core.List.{List, [], _∷_, _++_}
 use Rattle.lines.specs.declared.text.Placed.{Placed}
-use Rattle.lines.specs.declared.text.Placed.the-variants as Place
+use Rattle.lines.specs.declared.text.Placed.the-variants as Placed
 use Rattle.lines.specs.Text.{decimalOf}
 use Rattle.lines.specs.Lines.{badLine}
 use Rattle.figures.specs.declared.sums.Letters.{Letters}
@@ -12,8 +12,8 @@ use Rattle.figures.specs.declared.text.Stop.the-variants.{File, Bad, Too
 
 -- for private functions: the place after a text, or another
 abbrev pub nextOr : Placed → ℕ → ℕ
-nextOr (Place.Next next) otherwise = next
-nextOr Place.NoRoom otherwise = otherwise
+nextOr (Placed.Next next) otherwise = next
+nextOr Placed.NoRoom otherwise = otherwise
 
 -- a number, and a space or the end of the line
 unfoldable pub numberText : ℕ → ℕ → List ℕ

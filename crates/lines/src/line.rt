@@ -12,8 +12,8 @@ use crate::text::Placed;
 use vector::Vec3;
 
 // The counts of a run: expansions completed, faces made, faces live at the end, most edges in one pass, lookups that missed.
-// A type of its own: with that of `epa` whoever reads or prints a case would depend on the polytope, and the polytope has no
-// business with lines. The channel, which depends on both, turns one into the other.
+// A type of its own: with that of `epa` whoever prints a line would depend on the polytope, and the polytope has no business
+// with lines. The crate `outcome`, which depends on both, turns one into the other.
 pub struct Counts {
     pub expansions: usize,
     pub made: usize,

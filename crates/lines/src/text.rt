@@ -80,15 +80,6 @@ pub(crate) fn put_hex(out: &mut [u8], at: usize, n: u32) -> usize
     put_hex_pair(out, fourth, n)
 }
 
-// The eight hexadecimal digits of n go to the places from `at` on, where they have room there.
-pub fn write_hex(out: &mut [u8], at: usize, n: u32) -> Placed
-    ensures { λ r. ⌜ after (now (out .exit)) r ≡ placeOf (now (out .entry)) at (hexOf n) ⌝ }
-{
-    let mut digits = [0u8; 8];
-    let end = put_hex(&mut digits, 0, n);
-    place(out, at, &digits[..end])
-}
-
 // ---- decimal
 
 // The last decimal digit of n.

@@ -1,4 +1,4 @@
-// A run of the polytope, told as the outcome of a record: letters P, N, X and R, with the run's counts.
+// A run of the polytope, told as the outcome of a record: letters P, N and R with the run's counts, and X.
 ghost use mathlib.Core.Path.{_≡_};
 ghost use Rattle.number.specs.Told.{Told};
 ghost use Rattle.lines.specs.Lines.{outcomeNumber, outcomeValues};

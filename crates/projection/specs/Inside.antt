@@ -1,5 +1,5 @@
 -- The inside flag of a projection, and `PointProjection::is_inside_eps`, of any format f. Definitions only.
--- Carries the flag that `point_segment.rs` and `point_triangle.rs` give, and `is_inside_eps`. Their text is not published with the crate's: docs/DECISIONS.md says what stands in for it.
+-- Carries `relative_eq_vector` of src/utils/relative_eq.rs, by which `point_segment.rs` and `point_triangle.rs` set the flag, and `is_inside_eps`. But for the first their text is not published with the crate's: docs/DECISIONS.md says what stands in for it.
 use mathlib.Core.Bool.{Bool, _&&_, _||_}
 use lib.Ieee.{Float, Format, lt}
 use Rattle.vector.specs.declared.vec3.Vec3.{Vec3}
@@ -12,7 +12,7 @@ module _ (f : Format) where
   abbrev pub near : Float → Float → Bool
   near x y = relativeEq f x y (epsilon f) (epsilon f)
 
-  -- the flag: `relative_eq!(point, pt)`, component by component
+  -- the flag, `relative_eq_vector(point, pt)`: component by component
   unfoldable pub isInside : Vec3 → Vec3 → Bool
   isInside point pt = near (point .x) (pt .x) && near (point .y) (pt .y) && near (point .z) (pt .z)
 
@@ -24,6 +24,6 @@ module _ (f : Format) where
   unfoldable pub isInsideEps : Bool → Vec3 → Vec3 → Float → Bool
   isInsideEps flag point pt d = flag || within point pt d
 
-  -- what is left of it at the origin, where the flag adds nothing (`proofs/Inside.antt`)
+  -- what is left of it at the origin and at the polytope's tolerance, where alone it is asked: there the flag adds nothing (`flag-adds-nothing` of proofs/Inside.antt)
   unfoldable pub withinOrigin : Vec3 → Float → Bool
   withinOrigin point d = within point zeroV d

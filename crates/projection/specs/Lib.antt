@@ -1,4 +1,4 @@
--- What the contracts of this crate cite: projections on a segment and a triangle.
+-- What the contracts of this crate cite: `relative_eq`, the inside test, and the projections on a segment and a triangle.
 pub mod Relative
 pub mod Signs
 pub mod Values

@@ -1,7 +1,7 @@
 -- `relative_eq` of the Rust's crate `approx`, of any format f, one rounding each. Definitions only.
 use mathlib.Core.Bool.{Bool, true, false, cond, _||_}
-use lib.Ieee.{Float, Format, inf, lt, le, eq}
-use Rattle.number.specs.Small.{absolute}
+use lib.Ieee.{Float, Format, inf, le, eq}
+use Rattle.number.specs.Small.{gt, absolute}
 use Rattle.vector.specs.Vector.{_⊖_, _⊗_}
 
 -- `x.is_infinite()`
@@ -10,7 +10,7 @@ isInfinite x = eq x (inf false) || eq x (inf true)
 
 -- `if abs_y > abs_x { abs_y } else { abs_x }`
 unfoldable pub largerSize : Float → Float → Float
-largerSize «abs_x» «abs_y» = cond (lt «abs_x» «abs_y») «abs_y» «abs_x»
+largerSize «abs_x» «abs_y» = cond (gt «abs_y» «abs_x») «abs_y» «abs_x»
 
 -- `relative_eq!(x, y, epsilon, max_relative)`
 unfoldable pub relativeEq : Format → Float → Float → Float → Float → Bool

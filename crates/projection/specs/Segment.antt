@@ -3,6 +3,7 @@
 use Prim.Native.Nat.{ℕ}
 use mathlib.Core.Bool.{cond}
 use lib.Ieee.{Float, Format, le, eq}
+use Rattle.number.specs.Small.{ge}
 use Rattle.vector.specs.declared.vec3.Vec3.{Vec3}
 use Rattle.vector.specs.Vector.{zeroF, oneF, zeroV, addV, subV, scaleV, dotV, lengthSquaredV, _⊖_, _⊘_}
 use Rattle.projection.specs.Values.{Values}
@@ -24,7 +25,7 @@ projectSegment f s pt =
     let t = dotV f ab ap in
     let n = lengthSquaredV f ab in
     cond (le t zeroF) (At (s .a) (OnVertex 0))
-    (cond (le n t) (At (s .b) (OnVertex 1))
+    (cond (ge t n) (At (s .b) (OnVertex 1))
     (cond (eq n zeroF) Refused (onEdge f (s .a) ab (_⊘_ f t n))))
 
 -- ---- document 01's number of a projection, 0 or refusal 2, and its values: point and location, and zeros for the refusal, the corner 0 being the location of zeros

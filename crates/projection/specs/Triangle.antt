@@ -16,13 +16,13 @@ use Rattle.projection.specs.declared.triangle.TrianglePointLocation.{Tri
 use Rattle.projection.specs.declared.triangle.TrianglePointLocation.the-variants.{OnVertex, OnEdge, OnFace, OnSolid}
 use Rattle.projection.specs.declared.triangle.TriangleProjection.{TriangleProjection}
 use Rattle.projection.specs.declared.triangle.BarycentricCoordinates.{BarycentricCoordinates}
-use Rattle.projection.specs.declared.triangle.BarycentricCoordinates.the-variants as Weights
+use Rattle.projection.specs.declared.triangle.BarycentricCoordinates.the-variants as BarycentricCoordinates
 use Rattle.projection.specs.declared.triangle.Differences.{Differences}
 use Rattle.projection.specs.declared.triangle.Dots.{Dots}
 use Rattle.projection.specs.declared.triangle.MaybeProjection.{MaybeProjection}
 use Rattle.projection.specs.declared.triangle.MaybeProjection.the-variants.{Some, None}
 use Rattle.projection.specs.declared.triangle.ProjectionInfo.{ProjectionInfo}
-use Rattle.projection.specs.declared.triangle.ProjectionInfo.the-variants as Info
+use Rattle.projection.specs.declared.triangle.ProjectionInfo.the-variants as ProjectionInfo
 
 -- ---- the Voronoi regions of the corners
 unfoldable pub onVertex : ℕ → Vec3 → MaybeProjection
@@ -74,10 +74,10 @@ module _ (f : Format) where
       let vc = dotV f n (crossV f (v .ab) (v .ap)) in
       let vb = Ieee.neg (dotV f n (crossV f (v .ac) (v .cp))) in
       let va = dotV f n (crossV f (v .bc) (v .bp)) in
-      cond (lt vc zeroF && atLeastZero (k .«ab_ap») && atMostZero (k .«ab_bp»)) Info.OnAB
-      (cond (lt vb zeroF && atLeastZero (k .«ac_ap») && atMostZero (k .«ac_cp»)) Info.OnAC
-      (cond (lt va zeroF && atLeastZero (_⊖_ f (k .«ac_bp») (k .«ab_bp»)) && atLeastZero (_⊖_ f (k .«ab_cp») (k .«ac_cp»))) Info.OnBC
-      (Info.OnFace (faceSide (dotV f n (v .ap))) va vb vc)))
+      cond (lt vc zeroF && atLeastZero (k .«ab_ap») && atMostZero (k .«ab_bp»)) ProjectionInfo.OnAB
+      (cond (lt vb zeroF && atLeastZero (k .«ac_ap») && atMostZero (k .«ac_cp»)) ProjectionInfo.OnAC
+      (cond (lt va zeroF && atLeastZero (_⊖_ f (k .«ac_bp») (k .«ab_bp»)) && atLeastZero (_⊖_ f (k .«ab_cp») (k .«ac_cp»))) ProjectionInfo.OnBC
+      (ProjectionInfo.OnFace (faceSide (dotV f n (v .ap))) va vb vc)))
 
   -- a + ab * v on the edge i
   unfoldable pub onEdge : ℕ → Vec3 → Vec3 → Float → TriangleProjection
@@ -96,10 +96,10 @@ module _ (f : Format) where
 
   -- the projection on that edge or on the face
   unfoldable pub located : Triangle → Vec3 → Differences → Dots → ProjectionInfo → TriangleProjection
-  located t pt v k Info.OnAB = onEdge 0 (t .a) (v .ab) (_⊘_ f (k .«ab_ap») (lengthSquaredV f (v .ab)))
-  located t pt v k Info.OnAC = onEdge 2 (t .a) (v .ac) (_⊘_ f (k .«ac_ap») (lengthSquaredV f (v .ac)))
-  located t pt v k Info.OnBC = onEdge 1 (t .b) (v .bc) (_⊘_ f (dotV f (v .bc) (v .bp)) (lengthSquaredV f (v .bc)))
-  located t pt v k (Info.OnFace side va vb vc) = onFace pt (t .a) (v .ab) (v .ac) side va vb vc
+  located t pt v k ProjectionInfo.OnAB = onEdge 0 (t .a) (v .ab) (_⊘_ f (k .«ab_ap») (lengthSquaredV f (v .ab)))
+  located t pt v k ProjectionInfo.OnAC = onEdge 2 (t .a) (v .ac) (_⊘_ f (k .«ac_ap») (lengthSquaredV f (v .ac)))
+  located t pt v k ProjectionInfo.OnBC = onEdge 1 (t .b) (v .bc) (_⊘_ f (dotV f (v .bc) (v .bp)) (lengthSquaredV f (v .bc)))
+  located t pt v k (ProjectionInfo.OnFace side va vb vc) = onFace pt (t .a) (v .ab) (v .ac) side va vb vc
 
   -- `project_local_point_and_get_location`
   unfoldable pub projectTriangle : Triangle → Vec3 → TriangleProjection
@@ -118,33 +118,33 @@ module _ (f : Format) where
 -- ---- `barycentric_coordinates`. It refuses a corner or an edge that no triangle has, where the Rust panics.
 unfoldable pub vertexWeights : ℕ → BarycentricCoordinates
 vertexWeights i =
-    cond (eqb i 0) (Weights.Some oneF zeroF zeroF)
-    (cond (eqb i 1) (Weights.Some zeroF oneF zeroF)
-    (cond (eqb i 2) (Weights.Some zeroF zeroF oneF) Weights.Refused))
+    cond (eqb i 0) (BarycentricCoordinates.Some oneF zeroF zeroF)
+    (cond (eqb i 1) (BarycentricCoordinates.Some zeroF oneF zeroF)
+    (cond (eqb i 2) (BarycentricCoordinates.Some zeroF zeroF oneF) BarycentricCoordinates.Refused))
 
 unfoldable pub edgeWeights : ℕ → Float → Float → BarycentricCoordinates
 edgeWeights i u v =
-    cond (eqb i 0) (Weights.Some u v zeroF)
-    (cond (eqb i 1) (Weights.Some zeroF u v)
-    (cond (eqb i 2) (Weights.Some u zeroF v) Weights.Refused))
+    cond (eqb i 0) (BarycentricCoordinates.Some u v zeroF)
+    (cond (eqb i 1) (BarycentricCoordinates.Some zeroF u v)
+    (cond (eqb i 2) (BarycentricCoordinates.Some u zeroF v) BarycentricCoordinates.Refused))
 
 unfoldable pub barycentricCoordinates : TrianglePointLocation → BarycentricCoordinates
 barycentricCoordinates (OnVertex i) = vertexWeights i
 barycentricCoordinates (OnEdge i u v) = edgeWeights i u v
-barycentricCoordinates (OnFace i u v w) = Weights.Some u v w
-barycentricCoordinates OnSolid = Weights.None
+barycentricCoordinates (OnFace i u v w) = BarycentricCoordinates.Some u v w
+barycentricCoordinates OnSolid = BarycentricCoordinates.None
 
 -- ---- document 01's number of an answer, 0 or refusal 2, and its values: whether there are weights, for the Rust's `None` has none, and the weights, zeros where there are none
 unfoldable pub barycentricNumber : BarycentricCoordinates → ℕ
-barycentricNumber (Weights.Some u v w) = 0
-barycentricNumber Weights.None = 0
-barycentricNumber Weights.Refused = 2
+barycentricNumber (BarycentricCoordinates.Some u v w) = 0
+barycentricNumber BarycentricCoordinates.None = 0
+barycentricNumber BarycentricCoordinates.Refused = 2
 
 pub record WeightValues : Type 0 where
   pub some : Bool
   pub weights : Vec3
 
 unfoldable pub barycentricValues : BarycentricCoordinates → WeightValues
-barycentricValues (Weights.Some u v w) = record { some = true; weights = vec3 u v w }
-barycentricValues Weights.None = record { some = false; weights = zeroV }
-barycentricValues Weights.Refused = record { some = false; weights = zeroV }
+barycentricValues (BarycentricCoordinates.Some u v w) = record { some = true; weights = vec3 u v w }
+barycentricValues BarycentricCoordinates.None = record { some = false; weights = zeroV }
+barycentricValues BarycentricCoordinates.Refused = record { some = false; weights = zeroV }

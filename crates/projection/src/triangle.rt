@@ -17,7 +17,7 @@ pub struct Triangle {
 }
 
 // At a corner; on an edge (0: ab, 1: bc, 2: ac) with the weights of its ends; on a side of the face
-// (0 or 1) with the weights of a, b and c; or solid, where these would have the sum 0.
+// (0 or 1) with the weights of a, b and c; or solid, where their sum before the division is 0.
 pub enum TrianglePointLocation {
     OnVertex(u32),
     OnEdge(u32, f32, f32),

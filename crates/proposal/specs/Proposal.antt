@@ -12,6 +12,7 @@ use Rattle.certificate.specs.Certificate.{onGrid}
 unfoldable pub wholePart : Float → ℤ
 wholePart x = cond (le (fin true 1 (pos 63)) x) (cond (lt x (fin false 1 (pos 63))) (toSigned 63 x) (pos 0)) (pos 0)
 
+-- n, or 0 where it is no number of the grid
 unfoldable pub kept : ℤ → ℤ
 kept n = cond (onGrid n) n (pos 0)
 
@@ -19,8 +20,10 @@ kept n = cond (onGrid n) n (pos 0)
 unfoldable pub gridNumber : Format → Float → ℤ
 gridNumber f share = kept (wholePart (_⊗_ f share (fin false 1 (pos 20))))
 
+-- the largest of the three in size
 unfoldable pub reach : Vec3 → Float
 reach v = larger (larger (absolute (v .x)) (absolute (v .y))) (absolute (v .z))
 
+-- each number divided by it, as a share
 unfoldable pub proposed : Format → Vec3 → GridVector
 proposed f v = record { x = gridNumber f (_⊘_ f (v .x) (reach v)); y = gridNumber f (_⊘_ f (v .y) (reach v)); z = gridNumber f (_⊘_ f (v .z) (reach v)) }

@@ -18,7 +18,7 @@ fn whole_part(x: f32) -> i64
     0
 }
 
-// A share from -1 to 1 of the grid's reach. What is neither, a NaN too, gives 0.
+// A share of the grid's reach as a number of the grid; 0 where it is none, as for a NaN.
 fn grid_number(share: f32) -> i32
     ensures { λ r. ⌜ r ≡ gridNumber binary32 share ⌝ }
 {

@@ -6,26 +6,26 @@ use Rattle.epa_polytope.specs.declared.types.Found.the-variants as Found
 use Rattle.epa_polytope.specs.declared.types.Lost.{Lost}
 use Rattle.epa_polytope.specs.declared.types.Lost.the-variants as Lost
 use Rattle.reason.specs.declared.reasons.Reason.{Reason}
-use Rattle.reason.specs.declared.reasons.Reason.the-variants as Why
+use Rattle.reason.specs.declared.reasons.Reason.the-variants as Reason
 
 abbrev pub foundReason : Found → Reason
-foundReason Found.SinglePoint = Why.DegenerateStart
-foundReason Found.Converged = Why.Converged
-foundReason Found.Stuck = Why.Stuck
-foundReason Found.NewFaceNearer = Why.NearerFace
-foundReason Found.EnoughExpansions = Why.EnoughExpansions
-foundReason Found.HeapEmpty = Why.HeapEmpty
+foundReason Found.SinglePoint = Reason.DegenerateStart
+foundReason Found.Converged = Reason.Converged
+foundReason Found.Stuck = Reason.Stuck
+foundReason Found.NewFaceNearer = Reason.NearerFace
+foundReason Found.EnoughExpansions = Reason.EnoughExpansions
+foundReason Found.HeapEmpty = Reason.HeapEmpty
 
 -- refusal 1
 abbrev pub lostReason : Lost → Reason
-lostReason Lost.KeyAtStart = Why.KeyAtStart
-lostReason Lost.NoneHolds = Why.NoneHolds
-lostReason Lost.NoSilhouette = Why.NoSilhouette
-lostReason Lost.AllDeleted = Why.AllDeleted
-lostReason Lost.KeyLater = Why.KeyLater
+lostReason Lost.KeyAtStart = Reason.KeyAtStart
+lostReason Lost.NoneHolds = Reason.NoneHolds
+lostReason Lost.NoSilhouette = Reason.NoSilhouette
+lostReason Lost.AllDeleted = Reason.AllDeleted
+lostReason Lost.KeyLater = Reason.KeyLater
 
 abbrev pub reasonOf : End → Reason
 reasonOf (End.Answers why p1 p2 n) = foundReason why
 reasonOf (End.Nothing why) = lostReason why
-reasonOf (End.Panics site) = Why.PanicSite
-reasonOf (End.NoRoom store) = Why.NoRoom
+reasonOf (End.Panics site) = Reason.PanicSite
+reasonOf (End.NoRoom store) = Reason.NoRoom

@@ -7,7 +7,7 @@ use Rattle.vector.specs.declared.vec3.Vec3.{Vec3}
 use Rattle.vector.specs.declared.pose.Pose.{Pose}
 use Rattle.shape.specs.declared.support.Shape.{Shape}
 use Rattle.gjk.specs.declared.rounds.GJKResult.{GJKResult}
-use Rattle.gjk.specs.declared.rounds.GJKResult.the-variants as Gjk
+use Rattle.gjk.specs.declared.rounds.GJKResult.the-variants as GJKResult
 use Rattle.gjk.specs.declared.rounds.Gjk.{Gjk}
 use Rattle.epa_polytope.specs.Stores.{Lists}
 use Rattle.epa_polytope.specs.declared.types.Walk.the-variants.{Plain as plain}
@@ -17,24 +17,24 @@ use Rattle.casefile.specs.declared.records.Case.{Case}
 use Rattle.channel.specs.Channel.{distance}
 use Rattle.stream.specs.Reading.{Told, Answering, turnWith}
 use Rattle.reason.specs.declared.words.MaybeReason.{MaybeReason}
-use Rattle.reason.specs.declared.words.MaybeReason.the-variants as Maybe
+use Rattle.reason.specs.declared.words.MaybeReason.the-variants as MaybeReason
 use Rattle.reason.specs.Reasons.{reasonOf}
 use Rattle.reason.specs.Words.{reasonPlaced}
 
 abbrev pub because : Answer → MaybeReason
-because x = Maybe.Some (reasonOf (x .end))
+because x = MaybeReason.Some (reasonOf (x .end))
 
 -- by GJK's result: where the shapes meet, the reason of the polytope's run; elsewhere none, and the lists are kept
 abbrev pub byResult : GJKResult → Final MaybeReason → Final MaybeReason → Final MaybeReason
-byResult Gjk.Intersection meeting kept = meeting
-byResult (Gjk.ClosestPoints p1 p2 d) meeting kept = kept
-byResult (Gjk.Proximity d) meeting kept = kept
-byResult (Gjk.NoIntersection d) meeting kept = kept
-byResult Gjk.Refused meeting kept = kept
+byResult GJKResult.Intersection meeting kept = meeting
+byResult (GJKResult.ClosestPoints p1 p2 d) meeting kept = kept
+byResult (GJKResult.Proximity d) meeting kept = kept
+byResult (GJKResult.NoIntersection d) meeting kept = kept
+byResult GJKResult.Refused meeting kept = kept
 
 -- the polytope's run starts from the simplex that GJK left
 abbrev pub reasonBy : Format → Gjk → Pose → Shape → Shape → Lists → Final MaybeReason
-reasonBy f g m g1 g2 l = byResult (g .result) (answered because (penetration plain f m g1 g2 (g .simplex) l)) (final Maybe.None l)
+reasonBy f g m g1 g2 l = byResult (g .result) (answered because (penetration plain f m g1 g2 (g .simplex) l)) (final MaybeReason.None l)
 
 -- from two shapes, a start direction, the largest distance, the exact flag, and lent lists: the channel's own run
 unfoldable pub reasonFor : Format → Pose → Shape → Shape → Vec3 → Float → Bool → Lists → Final MaybeReason

@@ -14,7 +14,7 @@ pub enum MaybeReason {
     None,
 }
 
-// Where the text ends that was placed: there was room for it.
+// The text goes to the places from `at` on, where the caller has room for it; the answer is the place after it.
 fn put_text(out: &mut [u8], at: usize, text: &[u8]) -> usize
     requires { ⌜ at + length (now text) ≤ length (now out) ⌝ }
     ensures { λ r. ⌜ Put (now (out .entry)) at (now (text .entry)) (now (out .exit)) r ⌝ }

@@ -11,7 +11,7 @@ use Rattle.simplex.specs.Simplex.{vertexAt}
 use Rattle.reduction.specs.declared.location.Location.{Location}
 use Rattle.reduction.specs.declared.location.Location.the-variants.{OnVertex, OnEdge, OnFace, OnSolid}
 
--- The vertices of t, of which the first `dim` + 1 are live, are copies of live vertices of s: the one at the place i of t stood at the place `from i` of s. `≡` is equality of values: +0 is not -0,
+-- The live vertices of t, its first `dim` + 1, are copies of live vertices of s: the one at the place i of t stood at the place `from i` of s. `≡` is equality of values: +0 is not -0,
 -- and all NaNs are one
 pub record Copied (s t : VoronoiSimplex) (from : ℕ → ℕ) : Type 0 where
   pub notGrown : t .dim ≤ s .dim

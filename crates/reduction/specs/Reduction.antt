@@ -9,15 +9,15 @@ use lib.Ieee.{Float, Format}
 use Rattle.vector.specs.declared.vec3.Vec3.{Vec3}
 use Rattle.vector.specs.Vector.{oneF, zeroV}
 use Rattle.projection.specs.declared.segment.SegmentPointLocation.{SegmentPointLocation}
-use Rattle.projection.specs.declared.segment.SegmentPointLocation.the-variants as OfSegment
+use Rattle.projection.specs.declared.segment.SegmentPointLocation.the-variants as SegmentPointLocation
 use Rattle.projection.specs.declared.segment.SegmentProjection.{SegmentProjection}
-use Rattle.projection.specs.declared.segment.SegmentProjection.the-variants as SegmentAnswer
+use Rattle.projection.specs.declared.segment.SegmentProjection.the-variants as SegmentProjection
 use Rattle.projection.specs.declared.triangle.TrianglePointLocation.{TrianglePointLocation}
-use Rattle.projection.specs.declared.triangle.TrianglePointLocation.the-variants as OfTriangle
+use Rattle.projection.specs.declared.triangle.TrianglePointLocation.the-variants as TrianglePointLocation
 use Rattle.tetrahedron.specs.declared.TetrahedronPointLocation.{TetrahedronPointLocation}
-use Rattle.tetrahedron.specs.declared.TetrahedronPointLocation.the-variants as OfTetrahedron
+use Rattle.tetrahedron.specs.declared.TetrahedronPointLocation.the-variants as TetrahedronPointLocation
 use Rattle.tetrahedron.specs.declared.TetrahedronProjection.{TetrahedronProjection}
-use Rattle.tetrahedron.specs.declared.TetrahedronProjection.the-variants as TetrahedronAnswer
+use Rattle.tetrahedron.specs.declared.TetrahedronProjection.the-variants as TetrahedronProjection
 use Rattle.projection.specs.Values.{Values}
 use Rattle.projection.specs.Segment.{projectSegment}
 use Rattle.projection.specs.Triangle.{projectTriangle}
@@ -34,7 +34,7 @@ use Rattle.reduction.specs.declared.applying.Applied.{Applied}
 
 -- ---- document 01's number and values of each answer
 
--- of a projection 0 or refusal 2, and its values: point and location, and zeros for the refusal, the corner 0 being the location of zeros
+-- of a projection: 0 or refusal 2; its values: point and location, and zeros for the refusal, the corner 0 being the location of zeros
 unfoldable pub projectedNumber : Projected → ℕ
 projectedNumber (At p l) = 0
 projectedNumber Refused = 2
@@ -43,7 +43,7 @@ unfoldable pub projectedValues : Projected → Values Location
 projectedValues (At p l) = record { point = p; location = l }
 projectedValues Refused = record { point = zeroV; location = OnVertex 0 }
 
--- of applying a location 0, refusal 7 or refusal 2; its value is the simplex beside it
+-- of applying a location: 0, refusal 7 or refusal 2; it has no values, the simplex stands beside it
 unfoldable pub applicationNumber : Application → ℕ
 applicationNumber Taken = 0
 applicationNumber NoSuchLocation = 7
@@ -52,28 +52,28 @@ applicationNumber NoSimplex = 2
 -- ---- `project_origin`: point and location; the simplex stays as it is
 
 unfoldable pub segmentLocation : SegmentPointLocation → Location
-segmentLocation (OfSegment.OnVertex i) = OnVertex i
-segmentLocation (OfSegment.OnEdge u v) = OnEdge 0 u v
+segmentLocation (SegmentPointLocation.OnVertex i) = OnVertex i
+segmentLocation (SegmentPointLocation.OnEdge u v) = OnEdge 0 u v
 
 unfoldable pub triangleLocation : TrianglePointLocation → Location
-triangleLocation (OfTriangle.OnVertex i) = OnVertex i
-triangleLocation (OfTriangle.OnEdge i u v) = OnEdge i u v
-triangleLocation (OfTriangle.OnFace i u v w) = OnFace i u v w
-triangleLocation OfTriangle.OnSolid = OnSolid
+triangleLocation (TrianglePointLocation.OnVertex i) = OnVertex i
+triangleLocation (TrianglePointLocation.OnEdge i u v) = OnEdge i u v
+triangleLocation (TrianglePointLocation.OnFace i u v w) = OnFace i u v w
+triangleLocation TrianglePointLocation.OnSolid = OnSolid
 
 unfoldable pub tetrahedronLocation : TetrahedronPointLocation → Location
-tetrahedronLocation (OfTetrahedron.OnVertex i) = OnVertex i
-tetrahedronLocation (OfTetrahedron.OnEdge i u v) = OnEdge i u v
-tetrahedronLocation (OfTetrahedron.OnFace i u v w) = OnFace i u v w
-tetrahedronLocation OfTetrahedron.OnSolid = OnSolid
+tetrahedronLocation (TetrahedronPointLocation.OnVertex i) = OnVertex i
+tetrahedronLocation (TetrahedronPointLocation.OnEdge i u v) = OnEdge i u v
+tetrahedronLocation (TetrahedronPointLocation.OnFace i u v w) = OnFace i u v w
+tetrahedronLocation TetrahedronPointLocation.OnSolid = OnSolid
 
 abbrev pub segmentProjected : SegmentProjection → Projected
-segmentProjected (SegmentAnswer.At p l) = At p (segmentLocation l)
-segmentProjected SegmentAnswer.Refused = Refused
+segmentProjected (SegmentProjection.At p l) = At p (segmentLocation l)
+segmentProjected SegmentProjection.Refused = Refused
 
 abbrev pub tetrahedronProjected : TetrahedronProjection → Projected
-tetrahedronProjected (TetrahedronAnswer.At p l) = At p (tetrahedronLocation l)
-tetrahedronProjected TetrahedronAnswer.Refused = Refused
+tetrahedronProjected (TetrahedronProjection.At p l) = At p (tetrahedronLocation l)
+tetrahedronProjected TetrahedronProjection.Refused = Refused
 
 module _ (f : Format) where
   unfoldable pub locateSegment : Vec3 → Vec3 → Projected
@@ -192,7 +192,7 @@ hasLocation d OnSolid = eqb d 2 || eqb d 3
 abbrev pub appliedWith : VoronoiSimplex → Application → Applied
 appliedWith s x = record { simplex = s; outcome = x }
 
--- no simplex is told before all else; what is refused hands the simplex back as it came in
+-- whether the value is a simplex is tested before all else; what is refused hands the simplex back as it came in
 unfoldable pub applyLocation : VoronoiSimplex → Location → Applied
 applyLocation s l =
     cond (isSimplex s)

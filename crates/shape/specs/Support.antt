@@ -2,8 +2,8 @@
 -- Carries `SupportMap` of src/shape/ball.rs, cuboid.rs and capsule.rs, and `CsoPoint::from_shapes` and `from_shapes_toward` of src/query/gjk/cso_point.rs.
 -- The trait's defaults and the triangle's rule are not published with the crate's text: docs/DECISIONS.md says what stands in for them.
 use mathlib.Core.Bool.{cond}
-use lib.Ieee.{Float, Format, lt}
-use Rattle.number.specs.Small.{copySign}
+use lib.Ieee.{Float, Format}
+use Rattle.number.specs.Small.{gt, copySign}
 use Rattle.vector.specs.declared.vec3.Vec3.{Vec3}
 use Rattle.vector.specs.declared.pose.Pose.{Pose}
 use Rattle.vector.specs.Vector.{vec3, yV, negV, addV, scaleV, dotV, normalizeV, normalizeOrV}
@@ -31,7 +31,7 @@ module _ (f : Format) where
 
   -- `Capsule::local_support_point_toward`
   unfoldable pub capsuleToward : Vec3 → Vec3 → Float → Vec3 → Vec3
-  capsuleToward a b r d = cond (lt (dotV f d b) (dotV f d a)) (addV f a (scaleV f d r)) (addV f b (scaleV f d r))
+  capsuleToward a b r d = cond (gt (dotV f d a) (dotV f d b)) (addV f a (scaleV f d r)) (addV f b (scaleV f d r))
 
   -- `Triangle::local_support_point`
   unfoldable pub triangleLocal : Vec3 → Vec3 → Vec3 → Vec3 → Vec3
@@ -39,7 +39,7 @@ module _ (f : Format) where
       let d1 = dotV f a d in
       let d2 = dotV f b d in
       let d3 = dotV f c d in
-      cond (lt d2 d1) (cond (lt d3 d1) a c) (cond (lt d3 d2) b c)
+      cond (gt d1 d2) (cond (gt d1 d3) a c) (cond (gt d2 d3) b c)
 
   -- `SupportMap::local_support_point_toward`: a direction that the caller takes for a unit vector
   unfoldable pub localSupportPointToward : Shape → Vec3 → Vec3

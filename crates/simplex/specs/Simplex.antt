@@ -7,7 +7,7 @@ use lib.Dec.{leb, eqb}
 use lib.ListN.{set, getD}
 use lib.Ieee.{Float, Format, nan, lt}
 use Rattle.number.specs.Constants.{epsTol}
-use Rattle.number.specs.Small.{absolute}
+use Rattle.number.specs.Small.{gt, absolute}
 use Rattle.vector.specs.declared.vec3.Vec3.{Vec3}
 use Rattle.vector.specs.Vector.{zeroF, vec3, dotV, crossV, lengthSquaredV, normalizeV, equalV}
 use Rattle.shape.specs.declared.vertex.Vertex.{Vertex}
@@ -73,7 +73,7 @@ hasPoint s pt (suc n) = hasPoint s pt n || equalV (vertexAt s n .point) pt
 module _ (f : Format) where
   -- one turn of `max_sq_len`
   unfoldable pub greaterSqLen : Float → Vertex → Float
-  greaterSqLen most v = let norm = lengthSquaredV f (v .point) in cond (lt most norm) norm most
+  greaterSqLen most v = let norm = lengthSquaredV f (v .point) in cond (gt norm most) norm most
 
   -- `max_sq_len`
   unfoldable pub maxSqLenOf : VoronoiSimplex → ℕ → Float

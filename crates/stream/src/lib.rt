@@ -23,8 +23,8 @@ pub enum Next {
 }
 
 // The record at the place `at` of the bytes, whose first has the offset `base` in the file, is read. Where it is malformed
-// or cut off, `bad` goes to the places of `out` from `place` on. The bytes are the file's rest, or at least 160 from `at` on:
-// then the turn is the whole file's (law `window-turn`).
+// or cut off, `bad` goes to the places of `out` from `place` on. Where the bytes are the file's rest,
+// or at least 160 from `at` on, the turn is the whole file's (law `window-turn`).
 pub fn read_next(
     bytes: &[u8],
     at: usize,

@@ -5,7 +5,7 @@ use mathlib.Core.Bool.{cond, _&&_}
 use lib.Ieee.{Float, Format, lt, le, ne, eq}
 use Rattle.vector.specs.declared.vec3.Vec3.{Vec3}
 use Rattle.vector.specs.declared.vec3.MaybeVec3.{MaybeVec3}
-use Rattle.vector.specs.declared.vec3.MaybeVec3.the-variants as Vector
+use Rattle.vector.specs.declared.vec3.MaybeVec3.the-variants as MaybeVec3
 use Rattle.vector.specs.Vector.{zeroF, oneF, zeroV, negV, addV, subV, scaleV, dotV, crossV, tryNormalizeV, _⊕_, _⊖_, _⊗_, _⊘_}
 use Rattle.projection.specs.Signs.{atLeastZero, atMostZero}
 use Rattle.projection.specs.Values.{Values}
@@ -113,15 +113,16 @@ module _ (f : Format) where
   unfoldable pub onEdge : ℕ → Vec3 → Vec3 → Float → MaybeProjection
   onEdge i a ab u = Some (At (addV f a (scaleV f ab u)) (OnEdge i (_⊖_ f oneF u) u))
 
+  -- the Rust's third parameter, the edge's other end, is read by nothing and left out
   unfoldable pub checkEdge : ℕ → Vec3 → Vec3 → Vec3 → Vec3 → Vec3 → Float → Float → EdgeCheck
   checkEdge i a nabc nabd ap ab «ap_ab» «bp_ab» =
       let «ab_ab» = _⊖_ f «ap_ab» «bp_ab» in
       let «ap_x_ab» = crossV f ap ab in
-      let d1 = dotV f «ap_x_ab» nabc in
-      let d2 = dotV f «ap_x_ab» nabd in
-      cond (ne «ab_ab» zeroF && atLeastZero d1 && atLeastZero d2 && atLeastZero «ap_ab» && le «ap_ab» «ab_ab»)
-      (record { dabc = d1; dabd = d2; res = onEdge i a ab (_⊘_ f «ap_ab» «ab_ab») })
-      (record { dabc = d1; dabd = d2; res = None })
+      let dabc = dotV f «ap_x_ab» nabc in
+      let dabd = dotV f «ap_x_ab» nabd in
+      cond (ne «ab_ab» zeroF && atLeastZero dabc && atLeastZero dabd && atLeastZero «ap_ab» && le «ap_ab» «ab_ab»)
+      (record { dabc = dabc; dabd = dabd; res = onEdge i a ab (_⊘_ f «ap_ab» «ab_ab») })
+      (record { dabc = dabc; dabd = dabd; res = None })
 
   -- its six calls
   unfoldable pub checkEdges : Tetrahedron → Differences → Dots → Edges
@@ -137,7 +138,7 @@ module _ (f : Format) where
       }
 
   -- ---- `check_face`
-  -- past `assert!(denom != 0.0)`, which is the refusal
+  -- from `let denom` on; `assert!(denom != 0.0)` is the refusal
   unfoldable pub onFace : ℕ → Vec3 → Vec3 → Vec3 → Float → Float → Float → TetrahedronProjection
   onFace i a b c va vb vc =
       let denom = _⊕_ f (_⊕_ f va vb) vc in
@@ -150,12 +151,12 @@ module _ (f : Format) where
 
   -- past `n.try_normalize()?`
   unfoldable pub byNormal : ℕ → Vec3 → Vec3 → Vec3 → Vec3 → Vec3 → Vec3 → MaybeVec3 → MaybeProjection
-  byNormal i a b c ap bp cp (Vector.Some normal) =
+  byNormal i a b c ap bp cp (MaybeVec3.Some normal) =
       let vc = dotV f normal (crossV f ap bp) in
       let va = dotV f normal (crossV f bp cp) in
       let vb = dotV f normal (crossV f cp ap) in
       Some (onFace i a b c va vb vc)
-  byNormal i a b c ap bp cp Vector.None = None
+  byNormal i a b c ap bp cp MaybeVec3.None = None
 
   unfoldable pub checkFace : ℕ → Vec3 → Vec3 → Vec3 → Vec3 → Vec3 → Vec3 → Vec3 → Vec3 → Vec3 → Float → Float → Float → MaybeProjection
   checkFace i a b c ap bp cp ab ac ad dabc dbca dacb =

@@ -5,7 +5,7 @@ ghost use Rattle.tetrahedron.specs.Tetrahedron.{dots, normals, _orElse_,
 use crate::TetrahedronProjection;
 use vector::Vec3;
 
-// The Rust's `Option<(PointProjection, TetrahedronPointLocation)>`.
+// The Rust's `Option<(PointProjection, TetrahedronPointLocation)>`; a refusal stands in `Some`, since it ends the search too.
 pub enum MaybeProjection {
     Some(TetrahedronProjection),
     None,

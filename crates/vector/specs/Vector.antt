@@ -3,9 +3,10 @@
 use mathlib.Core.Bool.{Bool, false, cond, _&&_}
 use lib.IntN.{pos}
 use lib.Ieee as Ieee
-use lib.Ieee.{Float, Format, fin, lt, eq}
+use lib.Ieee.{Float, Format, fin, eq}
 use lib.Ieee.Scale.{finite}
 use Rattle.number.specs.Root.{root}
+use Rattle.number.specs.Small.{gt}
 use Rattle.vector.specs.declared.vec3.Vec3.{Vec3}
 use Rattle.vector.specs.declared.vec3.Axis.{Axis}
 use Rattle.vector.specs.declared.vec3.Axis.the-variants.{X, Y, Z}
@@ -63,7 +64,7 @@ withComponentV a Z n = vec3 (a .x) (a .y) n
 
 -- The test of glam's `try_normalize` and its kin, on `1 / length`
 unfoldable pub usable : Float → Bool
-usable r = finite r && lt zeroF r
+usable r = finite r && gt r zeroF
 
 -- ---- what rounds, to the format f; first + - * / of numbers
 module _ (f : Format) where

@@ -6,7 +6,7 @@ use lib.Dec.{ltb, leb}
 use lib.ListN.{length, take, drop}
 use lib.Seq.{sets}
 use Rattle.lines.specs.declared.text.Placed.{Placed}
-use Rattle.lines.specs.declared.text.Placed.the-variants as Place
+use Rattle.lines.specs.declared.text.Placed.the-variants as Placed
 use Rattle.window.specs.declared.Window.{Window}
 use Rattle.window.specs.declared.Turn.{Turn}
 use Rattle.window.specs.declared.Turn.the-variants as Turn
@@ -29,9 +29,9 @@ frontOf s at end = cond (ltb (length s) end) s (cond (ltb end at) s (sets s 0 (t
 
 -- of a line that was written, or had no room: with the place of the next record, or none
 abbrev pub lineTurn : ℕ → Placed → Turn
-lineTurn next (Place.Next k) = Turn.Line next k
-lineTurn next Place.NoRoom = Turn.NoRoom
+lineTurn next (Placed.Next k) = Turn.Line next k
+lineTurn next Placed.NoRoom = Turn.NoRoom
 
 abbrev pub badTurn : Placed → Turn
-badTurn (Place.Next k) = Turn.Stopped k
-badTurn Place.NoRoom = Turn.NoRoom
+badTurn (Placed.Next k) = Turn.Stopped k
+badTurn Placed.NoRoom = Turn.NoRoom

@@ -60,7 +60,7 @@ pub fn to_front(bytes: &mut [u8], from: usize, until: usize)
 pub enum Turn {
     // A record's line was written: the place of the next record, and of the next line.
     Line { next: usize, place: usize },
-    // In its place `bad` was: the place after it. Reading stops.
+    // In its place `bad` was written: the place after it. Reading stops.
     Stopped(usize),
     // The output has no room for the line: nothing was written to it.
     NoRoom,
@@ -78,7 +78,7 @@ pub fn line_turn(next: usize, placed: Placed) -> Turn
     }
 }
 
-// In its place `bad` was written, or had no room.
+// `bad` was written in place of a record's line, or had no room.
 pub fn bad_turn(placed: Placed) -> Turn
     ensures { λ r. ⌜ r ≡ badTurn placed ⌝ }
 {

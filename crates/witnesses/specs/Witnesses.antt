@@ -7,9 +7,9 @@ use Rattle.vector.specs.declared.vec3.Vec3.{Vec3}
 use Rattle.vector.specs.Vector.{zeroV, addV, scaleV}
 use Rattle.simplex.specs.declared.voronoi_simplex.VoronoiSimplex.{VoronoiSimplex}
 use Rattle.simplex.specs.declared.operations.Number.{Number}
-use Rattle.simplex.specs.declared.operations.Number.the-variants as Weight
+use Rattle.simplex.specs.declared.operations.Number.the-variants as Number
 use Rattle.simplex.specs.declared.operations.Corner.{Corner}
-use Rattle.simplex.specs.declared.operations.Corner.the-variants as Vertices
+use Rattle.simplex.specs.declared.operations.Corner.the-variants as Corner
 use Rattle.simplex.specs.Operations.{projCoord, cornerPoint, prevProjCoord, prevPoint}
 use Rattle.witnesses.specs.declared.Witnesses.{Witnesses}
 use Rattle.witnesses.specs.declared.Witnesses.the-variants.{At, Refused}
@@ -40,9 +40,9 @@ lastOf s prev = cond prev (s .«prev_dim») (s .dim)
 module _ (f : Format) where
   -- one turn of the loop: `res.0 += point.orig1 * coord; res.1 += point.orig2 * coord`. Refused where a reader is.
   abbrev pub weighed : Witnesses → Number → Corner → Witnesses
-  weighed (At r1 r2) (Weight.Is c) (Vertices.At v) = At (addV f r1 (scaleV f (v .orig1) c)) (addV f r2 (scaleV f (v .orig2) c))
-  weighed (At r1 r2) (Weight.Is c) Vertices.Refused = Refused
-  weighed (At r1 r2) Weight.Refused v = Refused
+  weighed (At r1 r2) (Number.Is c) (Corner.At v) = At (addV f r1 (scaleV f (v .orig1) c)) (addV f r2 (scaleV f (v .orig2) c))
+  weighed (At r1 r2) (Number.Is c) Corner.Refused = Refused
+  weighed (At r1 r2) Number.Refused v = Refused
   weighed Refused c v = Refused
 
   unfoldable pub withVertex : VoronoiSimplex → Bool → ℕ → Witnesses → Witnesses
@@ -53,6 +53,6 @@ module _ (f : Format) where
   witnessesTo s prev zero = At zeroV zeroV
   witnessesTo s prev (suc n) = withVertex s prev n (witnessesTo s prev n)
 
-  -- a simplex has at most four
+  -- `for i in 0..dimension + 1`; where the dimension is above 3 the value is no simplex, and every reader refuses
   unfoldable pub resultOf : VoronoiSimplex → Bool → Witnesses
   resultOf s prev = let last = lastOf s prev in cond (ltb last 4) (witnessesTo s prev (last + 1)) Refused

@@ -10,11 +10,7 @@ returns c = simp (← c .before .before .is-beyond .ensures, ← c .ended .ensur
 
 returns-2 : tie.Need-returns-2
 unfolding lowered
-returns-2 c = simp (← c .before .before .before .before .before .before .before .before .before .before .before .before .before .before .is-beyond .ensures, ← c .before .before .before .before .before .before .before .before .before .scale .ensures, ← c .before .before .before .before .before .before .before .before .neg .ensures, ← c .before .before .before .before .before .before .before .modify-pnts .ensures .0, ← c .before .before .before .before .before .add .ensures, ← c .before .before .before .largest .ensures, ← c .onward .ensures, c .before .enum-told .given .1, c .before .before .before .before .before .before .before .before .before .before .before .before .before .if1 .left)
-
-returns-3 : tie.Need-returns-3
-unfolding lowered
-returns-3 c = simp (← c .before .before .before .before .before .before .before .before .before .before .before .before .before .before .is-beyond .ensures, ← c .before .before .before .before .before .before .before .before .before .scale .ensures, ← c .before .before .before .before .before .before .before .before .neg .ensures, ← c .before .before .before .before .before .before .before .modify-pnts .ensures .0, ← c .before .before .before .before .before .add .ensures, ← c .before .before .before .largest .ensures, ← c .ended2 .ensures, c .before .enum-told2 .given .1, c .before .before .before .before .before .before .before .before .before .before .before .before .before .if1 .left)
+returns-2 c = simp (← c .before .before .before .before .before .before .before .before .before .before .before .before .is-beyond .ensures, ← c .before .before .before .before .before .before .before .scale .ensures, ← c .before .before .before .before .before .before .neg .ensures, ← c .before .before .before .before .before .modify-pnts .ensures .0, ← c .before .before .before .add .ensures, ← c .before .largest .ensures, ← c .onward .ensures, c .before .before .before .before .before .before .before .before .before .before .before .if1 .left)
 
 pub lowered-turn-spec : {M : Type 1} → statement M
-lowered-turn-spec = tie.close (tie.spec (λ c κs. tt) (λ c κs. tt) returns (λ c κs. tt) (λ c κs. tt) (λ c κs. tt) (λ c κs. tt) (λ c κs. tt) (λ c. search needs) (λ c κs. tt) (λ c. search needs) (λ c κs. tt) returns-2 returns-3)
+lowered-turn-spec = tie.close (tie.spec (λ c κs. tt) (λ c κs. tt) returns (λ c κs. tt) (λ c κs. tt) (λ c κs. tt) (λ c κs. tt) (λ c κs. tt) (λ c. search needs) returns-2)
