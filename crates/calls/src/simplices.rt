@@ -12,8 +12,8 @@ use crate::words::size_at;
 use reduction::Location;
 use reduction::Projected;
 use simplex::Corner;
-use simplex::Number;
-use simplex::Size;
+use simplex::Dimension;
+use simplex::Scalar;
 use simplex::VoronoiSimplex;
 use vector::Vec3;
 
@@ -26,17 +26,17 @@ pub fn answer_number(answer: simplex::Answer) -> usize {
     }
 }
 
-fn number_said(number: Number) -> Answer {
-    match number {
-        Number::Is(x) => of_number(x),
-        Number::Refused => said(2),
+fn scalar_said(scalar: Scalar) -> Answer {
+    match scalar {
+        Scalar::Is(x) => of_number(x),
+        Scalar::Refused => said(2),
     }
 }
 
-fn size_said(size: Size) -> Answer {
-    match size {
-        Size::Is(n) => of_count(n),
-        Size::Refused => said(2),
+fn dimension_said(dimension: Dimension) -> Answer {
+    match dimension {
+        Dimension::Is(n) => of_count(n),
+        Dimension::Refused => said(2),
     }
 }
 
@@ -65,13 +65,13 @@ pub fn projected(projection: Projected) -> Answer {
 
 fn read(function: u32, s: VoronoiSimplex, i: usize, pt: Vec3) -> Answer {
     match function {
-        50 => number_said(s.proj_coord(i)),
-        51 => number_said(s.prev_proj_coord(i)),
-        52 => number_said(s.max_sq_len()),
+        50 => scalar_said(s.proj_coord(i)),
+        51 => scalar_said(s.prev_proj_coord(i)),
+        52 => scalar_said(s.max_sq_len()),
         53 => corner_said(s.point(i)),
         54 => corner_said(s.prev_point(i)),
-        55 => size_said(s.dimension()),
-        56 => size_said(s.prev_dimension()),
+        55 => dimension_said(s.dimension()),
+        56 => dimension_said(s.prev_dimension()),
         57 => of_bool(s.is_simplex()),
         58 => said(answer_number(s.contains_point(pt))),
         _ => projected(reduction::project_origin(s)),

@@ -20,10 +20,10 @@ use Rattle.epa.specs.Final as Runs
 use Rattle.epa.proofs.Agreement.{penetrations-agree, penetrations-same}
 use Rattle.lines.specs.declared.line.Outcome.{Outcome}
 use Rattle.outcome.specs.Outcome.{countsOf, endedAs, outcomeOf}
-use Rattle.channel.specs.Channel.{distance, byResult, separated, Placed}
+use Rattle.channel.specs.Channel.{distance, byResult, separated, HadRoom}
 
 -- what is placed by its letter is placed by its end
-placed-run : (x : Epa.Answer) → Placed (outcomeOf x) → Runs.Placed x
+placed-run : (x : Epa.Answer) → HadRoom (outcomeOf x) → Runs.HadRoom x
 unfolding outcomeOf
 placed-run x p y e = p (countsOf (x .counts)) (ap (λ (z : End). endedAs z (countsOf (x .counts))) e)
 
@@ -37,12 +37,12 @@ same-result (NoIntersection d) a b kA kB eA eB same = eA _ ∙ sym (eB _)
 same-result Refused a b kA kB eA eB same = eA _ ∙ sym (eB _)
 
 -- an outcome of a run that meets is the polytope's
-met : (q : GJKResult) (a : Final Epa.Answer) (kept : Outcome → Final Outcome) → q ≡ Intersection → Placed (byResult q (answered outcomeOf a) kept .answer) → Runs.Placed (a .answer)
+met : (q : GJKResult) (a : Final Epa.Answer) (kept : Outcome → Final Outcome) → q ≡ Intersection → HadRoom (byResult q (answered outcomeOf a) kept .answer) → Runs.HadRoom (a .answer)
 met q a kept e p = placed-run (a .answer) (rw e at p)
 
 module _ (f : Format) (m : Pose) (g1 g2 : Shape) (dir : Vec3) (maxDist : Float) (exact : Bool) (l k : Lists) where
   -- NEITHER REFUSED FOR ROOM
-  pub channels-agree : Placed (separated f m g1 g2 dir maxDist exact l .answer) → Placed (separated f m g1 g2 dir maxDist exact k .answer)
+  pub channels-agree : HadRoom (separated f m g1 g2 dir maxDist exact l .answer) → HadRoom (separated f m g1 g2 dir maxDist exact k .answer)
       → separated f m g1 g2 dir maxDist exact l .answer ≡ separated f m g1 g2 dir maxDist exact k .answer
   unfolding separated
   channels-agree p q =

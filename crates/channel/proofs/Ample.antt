@@ -18,7 +18,7 @@ use Rattle.epa_polytope.specs.declared.types.Store.{Store}
 use Rattle.epa_polytope.specs.declared.types.Walk.the-variants.{Plain as plain}
 use Rattle.epa.proofs.Ample.{ample-penetration}
 use Rattle.lines.specs.Lines.{outcomeNumber}
-use Rattle.channel.specs.Channel.{distance, separated, Placed}
+use Rattle.channel.specs.Channel.{distance, separated, HadRoom}
 use Rattle.channel.proofs.Numbers.{numberBy, numbers-agree}
 
 not-three : (q : GJKResult) (e : End) → ((y : Store) → e ≡ NoRoom y → ⊥) → numberBy q e ≡ 3 → ⊥
@@ -40,5 +40,5 @@ module _ (f : Format) (m : Pose) (g1 g2 : Shape) (dir : Vec3) (maxDist : Float) 
       not-three (g .result) _ (ample-penetration plain f m g1 g2 (g .simplex) l room) (sym (numbers-agree f m g1 g2 dir maxDist exact l) ∙ e)
 
   -- so its letter is never R
-  pub ample-separated : Placed (separated f m g1 g2 dir maxDist exact l .answer)
+  pub ample-separated : HadRoom (separated f m g1 g2 dir maxDist exact l .answer)
   ample-separated c e = ample-number (ap outcomeNumber e)

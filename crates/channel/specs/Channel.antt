@@ -47,5 +47,5 @@ unfoldable pub separated : Format → Pose → Shape → Shape → Vec3 → Floa
 separated f m g1 g2 dir maxDist exact l = separatedBy f (distance f m g1 g2 dir maxDist exact) m g1 g2 l
 
 -- an outcome that is not refused for room: its letter is not R
-abbrev pub Placed : Outcome → Type 0
-Placed o = (c : Counts) → o ≡ Outcome.NoPlace c → ⊥
+abbrev pub HadRoom : Outcome → Type 0
+HadRoom o = (c : Counts) → o ≡ Outcome.NoPlace c → ⊥

@@ -10,13 +10,13 @@ use Rattle.epa_polytope.specs.Stores.{Lists}
 use Rattle.epa_polytope.specs.Bounds.{Ample}
 use Rattle.epa_lent.specs.Lent.{firstEdges, onFirst}
 use Rattle.epa_lent.proofs.Ample.{ample-first, first-suffice}
-use Rattle.channel.specs.Channel.{separated, Placed}
+use Rattle.channel.specs.Channel.{separated, HadRoom}
 use Rattle.channel.proofs.Ample.{ample-separated}
 use Rattle.channel.proofs.Agreement.{channels-agree, channels-same}
 
 module _ (f : Format) (m : Pose) (g1 g2 : Shape) (dir : Vec3) (maxDist : Float) (exact : Bool) (l : Lists) where
   -- NEVER R, with room that suffices
-  pub ample-separatedRecords : Ample l → Placed (onFirst (separated f m g1 g2 dir maxDist exact) l .answer)
+  pub ample-separatedRecords : Ample l → HadRoom (onFirst (separated f m g1 g2 dir maxDist exact) l .answer)
   ample-separatedRecords room = ample-separated f m g1 g2 dir maxDist exact (firstEdges l) (ample-first l room)
 
   -- THE CHANNEL OVER RECORDS ANSWERS what it does over all their numbers
@@ -25,6 +25,6 @@ module _ (f : Format) (m : Pose) (g1 g2 : Shape) (dir : Vec3) (maxDist : Float) 
 
 -- CHANNELS OVER RECORDS AGREE, neither refused for room
 pub records-agree : (f : Format) (m : Pose) (g1 g2 : Shape) (dir : Vec3) (maxDist : Float) (exact : Bool) (l k : Lists)
-    → Placed (onFirst (separated f m g1 g2 dir maxDist exact) l .answer) → Placed (onFirst (separated f m g1 g2 dir maxDist exact) k .answer)
+    → HadRoom (onFirst (separated f m g1 g2 dir maxDist exact) l .answer) → HadRoom (onFirst (separated f m g1 g2 dir maxDist exact) k .answer)
     → onFirst (separated f m g1 g2 dir maxDist exact) l .answer ≡ onFirst (separated f m g1 g2 dir maxDist exact) k .answer
 records-agree f m g1 g2 dir maxDist exact l k = channels-agree f m g1 g2 dir maxDist exact (firstEdges l) (firstEdges k)

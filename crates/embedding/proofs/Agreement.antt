@@ -22,9 +22,9 @@ use Rattle.answers.specs.declared.MaybeShape.{MaybeShape}
 use Rattle.answers.specs.declared.MaybeShape.the-variants.{Some, None}
 use Rattle.answers.specs.Answers.{answerOf, malformed, numberOf}
 use Rattle.answers.proofs.Numbers.{number-told}
-use Rattle.embedding.specs.Embedding.{ran, Placed}
+use Rattle.embedding.specs.Embedding.{ran, HadRoom}
 
-placed-answer : (o : Outcome) → Channel.Placed o → Placed (answerOf o)
+placed-answer : (o : Outcome) → Channel.HadRoom o → HadRoom (answerOf o)
 unfolding answerOf numberOf
 placed-answer (ClosestPoints a b n) p e = omega arith
 placed-answer (Proximity n) p e = omega arith
@@ -34,7 +34,7 @@ placed-answer (NoAnswer c) p e = omega arith
 placed-answer Panic p e = omega arith
 placed-answer (NoPlace c) p e = p c refl
 
-answer-placed : (o : Outcome) → Placed (answerOf o) → Channel.Placed o
+answer-placed : (o : Outcome) → HadRoom (answerOf o) → Channel.HadRoom o
 answer-placed o p c e = p (number-told o ∙ ap outcomeNumber e)
 
 module _ (f : Format) (m : Pose) (dir : Vec3) (maxDist : Float) (exact : Bool) where
@@ -43,20 +43,20 @@ module _ (f : Format) (m : Pose) (dir : Vec3) (maxDist : Float) (exact : Bool) w
   called x1 x2 l = onFirst (ran f m x1 x2 dir maxDist exact) l .answer
 
   -- NEVER REFUSAL 3, with room that suffices
-  pub ample-ran : (x1 x2 : MaybeShape) (l : Lists) → Ample l → Placed (called x1 x2 l)
+  pub ample-ran : (x1 x2 : MaybeShape) (l : Lists) → Ample l → HadRoom (called x1 x2 l)
   unfolding malformed numberOf
   ample-ran (Some g1) (Some g2) l room = placed-answer _ (ample-separatedRecords f m g1 g2 dir maxDist exact l room)
   ample-ran (Some g1) None l room = λ e. omega arith
   ample-ran None x2 l room = λ e. omega arith
 
   -- TWO CALLS AGREE, neither refused for room
-  pub calls-agree : (x1 x2 : MaybeShape) (l k : Lists) → Placed (called x1 x2 l) → Placed (called x1 x2 k) → called x1 x2 l ≡ called x1 x2 k
+  pub calls-agree : (x1 x2 : MaybeShape) (l k : Lists) → HadRoom (called x1 x2 l) → HadRoom (called x1 x2 k) → called x1 x2 l ≡ called x1 x2 k
   calls-agree (Some g1) (Some g2) l k p q = ap answerOf (records-agree f m g1 g2 dir maxDist exact l k (answer-placed _ p) (answer-placed _ q))
   calls-agree (Some g1) None l k p q = refl
   calls-agree None x2 l k p q = refl
 
   -- THREE CHANNELS on one record, none refused for room, are voted one, with no odd channel, whatever their stores held, NaN or not
-  pub three-channels : (x1 x2 : MaybeShape) (l k j : Lists) → Placed (called x1 x2 l) → Placed (called x1 x2 k) → Placed (called x1 x2 j)
+  pub three-channels : (x1 x2 : MaybeShape) (l k j : Lists) → HadRoom (called x1 x2 l) → HadRoom (called x1 x2 k) → HadRoom (called x1 x2 j)
       → voteOf f (called x1 x2 l) (called x1 x2 k) (called x1 x2 j) ≡ Agreed (called x1 x2 l) 0
   three-channels x1 x2 l k j p q r =
       let a = calls-agree x1 x2 l k p q in

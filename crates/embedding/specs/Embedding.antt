@@ -19,5 +19,5 @@ ran f m (Some g1) None dir maxDist exact l = final malformed l
 ran f m None x dir maxDist exact l = final malformed l
 
 -- an answer that is not refused for room, refusal 3
-abbrev pub Placed : Answer → Type 0
-Placed x = numberOf (x .outcome) ≡ 3 → ⊥
+abbrev pub HadRoom : Answer → Type 0
+HadRoom x = numberOf (x .outcome) ≡ 3 → ⊥

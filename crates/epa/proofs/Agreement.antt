@@ -13,7 +13,7 @@ use Rattle.epa_polytope.specs.declared.types.Walk.{Walk}
 use Rattle.epa_polytope.specs.Start.{worldOf, walkedAs}
 use Rattle.epa_polytope.specs.Same.{Same, SameEnd, Equivalent}
 use Rattle.epa_polytope.proofs.Agreement.{agreement, no-difference}
-use Rattle.epa.specs.Final.{Final, penetration, Placed}
+use Rattle.epa.specs.Final.{Final, penetration, HadRoom}
 use Rattle.epa.specs.declared.types.Answer.{Answer}
 use Rattle.epa.proofs.Ample.{Reported, reported}
 
@@ -32,11 +32,11 @@ module _ (walk : Walk) (f : Format) (m : Pose) (g1 g2 : Shape) (x : VoronoiSimpl
       let d = h .living in
       record { answers = cc; stores = h .stores }
 
-  placed-end : (y : Lists) → Placed (penetration walk f m g1 g2 x y .answer) → (z : Store) → reported walk f m g1 g2 x y .end ≡ noRoom z → ⊥
+  placed-end : (y : Lists) → HadRoom (penetration walk f m g1 g2 x y .answer) → (z : Store) → reported walk f m g1 g2 x y .end ≡ noRoom z → ⊥
   placed-end y p z e = p z (ap (λ (q : Final Answer). q .answer .end) (reported walk f m g1 g2 x y .told) ∙ e)
 
   -- NEITHER REFUSED FOR ROOM
-  pub penetrations-agree : Placed (penetration walk f m g1 g2 x l .answer) → Placed (penetration walk f m g1 g2 x k .answer) → OneAnswer
+  pub penetrations-agree : HadRoom (penetration walk f m g1 g2 x l .answer) → HadRoom (penetration walk f m g1 g2 x k .answer) → OneAnswer
   penetrations-agree p q =
       let a = reported walk f m g1 g2 x l in
       let b = reported walk f m g1 g2 x k in

@@ -79,8 +79,8 @@ abbrev pub penetration : Walk → Format → Pose → Shape → Shape → Vorono
 penetration y f m g1 g2 x l = finalOf (closestPoints y f (fromShapes f m g1 g2) x l)
 
 -- an answer that is not refused for room
-abbrev pub Placed : Answer → Type 0
-Placed x = (y : Store) → x .end ≡ noRoom y → ⊥
+abbrev pub HadRoom : Answer → Type 0
+HadRoom x = (y : Store) → x .end ≡ noRoom y → ⊥
 
 -- ---- the contract of a whole call
 

@@ -1,7 +1,7 @@
 -- What the answers of this crate's private functions tell of a step of the run, the new faces of an expansion (the loop of `EPA::closest_points` of src/query/epa/epa3.rs).
 -- Definitions only; who reads the public contract need not read them.
 use Prim.Native.Nat.{ℕ, _+_}
-use Rattle.epa_polytope.specs.declared.types.End.the-variants.{Nothing as Without, NoRoom}
+use Rattle.epa_polytope.specs.declared.types.End.the-variants as End
 use Rattle.epa_polytope.specs.declared.types.Expansion.{Expansion}
 use Rattle.epa_polytope.specs.declared.types.Found.the-variants.{NewFaceNearer}
 use Rattle.epa_polytope.specs.declared.types.Lost.the-variants.{KeyLater}
@@ -24,9 +24,9 @@ abbrev pub stepOf : Numbers → Expansion → ℕ → ℕ → Tally → Lists �
 stepOf w u faces heap c l Nothing = Onward (counts faces heap c)
 stepOf w u faces heap c l Plain = Onward (counts (faces + 1) heap c)
 stepOf w u faces heap c l Queued = Onward (counts (faces + 1) (heap + 1) c)
-stepOf w u faces heap c l NoRoomForFace = Ended (NoRoom Faces) (counts faces heap c)
-stepOf w u faces heap c l NoRoomForEntry = Ended (NoRoom Heap) (counts (faces + 1) heap c)
-stepOf w u faces heap c l KeyRefused = Ended (Without KeyLater) (counts (faces + 1) heap c)
+stepOf w u faces heap c l NoRoomForFace = Ended (End.NoRoom Faces) (counts faces heap c)
+stepOf w u faces heap c l NoRoomForEntry = Ended (End.NoRoom Heap) (counts (faces + 1) heap c)
+stepOf w u faces heap c l KeyRefused = Ended (End.Nothing KeyLater) (counts (faces + 1) heap c)
 stepOf w u faces heap c l Nearer = Ended (answerOf (w .format) NewFaceNearer l (u .face)) (counts (faces + 1) heap c)
 
 abbrev pub grownOut : Numbers → Expansion → ℕ → ℕ → Tally → Lists → Grown → Out Nil

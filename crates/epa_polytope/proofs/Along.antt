@@ -8,7 +8,7 @@ use lib.ListN.{length, getD, set, length-set}
 use lib.Dec.{eqb, ltb}
 use borrow.Author.Tests.{ltb-true, ltb-false}
 use Rattle.epa_polytope.specs.Stores.{cornerIn, neighbourIn}
-use Rattle.epa_polytope.specs.Silhouette.{Mesh, Walked, WalkAnswer, Done, NoRoom, Question, zeros, nextCcwPtId, lookup, facing, withMissed, entered, edgePut, notedIf, noted, askIf, ask, walkIn, walk, pass}
+use Rattle.epa_polytope.specs.Silhouette.{Mesh, Walked, WalkAnswer, Done, NoRoom, Question, zeros, nextCcwPtId, lookup, facing, withMissed, entered, pairPut, notedIf, noted, askIf, ask, walkIn, walk, pass}
 use Rattle.epa_polytope.specs.Bounds.{NeighboursIn}
 use Rattle.epa_polytope.specs.Same.{Alike}
 use Rattle.epa_polytope.proofs.Walks.{enough, Asked, asked-facing}
@@ -52,16 +52,16 @@ full-stays (suc n) m s q e = by (s .answer) (eqb (getD (s .deleted) (q .face) 1)
     by (Done k) d v x = let z : _≡_ {A = ℕ} 0 1 = cc in let y : ⊥ = omega arith in absurd y
 
 -- an edge more, in both
-pub alike-edge : (n : ℕ) (l k : List ℕ) (q : Question) → n < length l / 2 → n < length k / 2 → Alike (n * 2) l k → Alike ((n + 1) * 2) (edgePut l n q) (edgePut k n q)
+pub alike-edge : (n : ℕ) (l k : List ℕ) (q : Question) → n < length l / 2 → n < length k / 2 → Alike (n * 2) l k → Alike ((n + 1) * 2) (pairPut l n q) (pairPut k n q)
 alike-edge n l k q hl hk a =
     let e : suc (suc (n * 2)) ≡ (n + 1) * 2 = omega arith in
     let one : suc (n * 2) ≡ n * 2 + 1 = omega arith in
     let b = alike-push (n * 2) l k (q .face) (omega arith) (omega arith) a in
     let c = alike-push (suc (n * 2)) (set l (n * 2) (q .face)) (set k (n * 2) (q .face)) (q .corner) (omega (arith, length-set l (n * 2) (q .face))) (omega (arith, length-set k (n * 2) (q .face))) b in
-    subst (λ (x : ℕ). Alike x (edgePut l n q) (edgePut k n q)) e
+    subst (λ (x : ℕ). Alike x (pairPut l n q) (pairPut k n q)) e
     (subst (λ (x : ℕ). Alike (suc (suc (n * 2))) (set (set l (n * 2) (q .face)) x (q .corner)) (set (set k (n * 2) (q .face)) x (q .corner))) one c)
 
-pub edge-length : (n : ℕ) (l : List ℕ) (q : Question) → length (edgePut l n q) ≡ length l
+pub edge-length : (n : ℕ) (l : List ℕ) (q : Question) → length (pairPut l n q) ≡ length l
 edge-length n l q = length-set (set l (n * 2) (q .face)) (n * 2 + 1) (q .corner) ∙ length-set l (n * 2) (q .face)
 
 alike-next : (N : ℕ) (l k : List ℕ) (f p : ℕ) → f < N → Alike (N * 6) l k → nextCcwPtId l f p ≡ nextCcwPtId k f p

@@ -6,8 +6,8 @@ use native.Mathlib.Omega.{arith}
 use native.Mathlib.Decide.{ℕ-discrete}
 use lib.ListN.{length, getD, set}
 use lib.Seq.{getD-set-other, sets}
-use Rattle.epa_polytope.specs.Stores.{Three, one, liveTo, neighbourIn, linkedIn, faceCells, putFace}
-use Rattle.epa_polytope.specs.Silhouette.{Question, edgePut}
+use Rattle.epa_polytope.specs.Stores.{Three, oneIfZero, liveTo, neighbourIn, linkedIn, faceCells, putFace}
+use Rattle.epa_polytope.specs.Silhouette.{Question, pairPut}
 use Rattle.epa_polytope.specs.Expansion.{edgeFace, edgeCorner}
 use Rattle.epa_polytope.specs.Bounds.{AllIn, CornersIn, NeighboursIn}
 
@@ -150,7 +150,7 @@ pub record EdgesIn (N n : ℕ) (l : List ℕ) : Type 0 where
 pub no-edges : (N : ℕ) (l : List ℕ) → EdgesIn N 0 l
 no-edges N l = record { faces = λ i h. let z : ⊥ = omega arith in absurd z; corners = λ i h. let z : ⊥ = omega arith in absurd z }
 
-pub edges-put : (N n : ℕ) (l : List ℕ) (q : Question) → q .face < N → q .corner < 3 → EdgesIn N n l → EdgesIn N (n + 1) (edgePut l n q)
+pub edges-put : (N n : ℕ) (l : List ℕ) (q : Question) → q .face < N → q .corner < 3 → EdgesIn N n l → EdgesIn N (n + 1) (pairPut l n q)
 edges-put N n l q hf hc a = record { faces = λ i h. face i h (ℕ-discrete i n); corners = λ i h. corner i h (ℕ-discrete i n) }
   where
     first : List ℕ
@@ -178,7 +178,7 @@ live-out (suc n) d i v h =
     let e : n ≡ i → ⊥ = λ q. omega arith in
     rw (getD-set-other d i n v 1 e, live-out n d i v (omega arith))
 
-dead-at : (d : List ℕ) (i : ℕ) → one (getD (set d i 1) i 1) ≡ 0
+dead-at : (d : List ℕ) (i : ℕ) → oneIfZero (getD (set d i 1) i 1) ≡ 0
 dead-at [] i = refl
 dead-at (x ∷ d) zero = refl
 dead-at (x ∷ d) (suc i) = dead-at d i
@@ -206,7 +206,7 @@ live-set (suc n) d i = by (live-set n d i) (ℕ-discrete n i)
     by ih (yes e) = rw e (rw (dead-at d i, live-out i d i 1 (omega arith)) (omega arith))
     by ih (no e) = rw (getD-set-other d i n 1 1 e) (omega (arith, ih))
 
-one-most : (x : ℕ) → one x ≤ 1
+one-most : (x : ℕ) → oneIfZero x ≤ 1
 one-most zero = omega arith
 one-most (suc x) = omega arith
 

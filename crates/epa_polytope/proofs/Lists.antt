@@ -8,7 +8,7 @@ use native.Mathlib.Omega.{arith}
 use lib.ListN.{length, getD, set}
 use lib.Seq.{sets}
 use lib.Ieee.{Float, Format, nan, binary32, binary64, div, ofBits}
-use Rattle.epa_polytope.specs.Stores.{one}
+use Rattle.epa_polytope.specs.Stores.{oneIfZero}
 use Rattle.epa_polytope.specs.Expansion.{blank}
 use Rattle.epa_polytope.specs.Stores.{liveTo}
 
@@ -66,7 +66,7 @@ unfolding blank
 blank-next i l = rw (add-one i)
 
 -- one face more
-one-most : (x : ℕ) → one x ≤ 1
+one-most : (x : ℕ) → oneIfZero x ≤ 1
 one-most zero = omega arith
 one-most (suc x) = omega arith
 
@@ -75,10 +75,10 @@ unfolding liveTo
 live-most zero d = omega arith
 live-most (suc n) d = omega (arith, live-most n d, one-most (getD d n 1))
 
-one-zero : (x : ℕ) → x ≡ 0 → one x ≡ 1
+one-zero : (x : ℕ) → x ≡ 0 → oneIfZero x ≡ 1
 one-zero x e = rw e
 
-one-other : (x : ℕ) → (x ≡ 0 → ⊥) → one x ≡ 0
+one-other : (x : ℕ) → (x ≡ 0 → ⊥) → oneIfZero x ≡ 0
 one-other zero h = absurd (h refl)
 one-other (suc x) h = refl
 

@@ -8,7 +8,7 @@ use lib.ListN.{length, getD, set, length-set}
 use lib.Seq.{getD-set-other}
 use lib.Dec.{eqb, ltb}
 use borrow.Author.Tests.{ltb-true, ltb-false, lt-ltb, le-ltb}
-use Rattle.epa_polytope.specs.Silhouette.{Question, WalkAnswer, Done, NoRoom, Mesh, Walked, facing, edgePut, noted, entered}
+use Rattle.epa_polytope.specs.Silhouette.{Question, WalkAnswer, Done, NoRoom, Mesh, Walked, facing, pairPut, noted, entered}
 use Rattle.epa_polytope.specs.PlainWalk.{Walking, walking, putIf, putIn, questionAt, without, answerIf, answerQuestion, turn, turns, plainWalk, plainPass}
 use Rattle.epa_polytope.specs.Bounds.{NeighboursIn}
 use Rattle.epa_polytope.specs.Same.{Alike}

@@ -8,7 +8,7 @@ use lib.ListN.{length, getD, set}
 use lib.Dec.{eqb, ltb}
 use borrow.Author.Tests.{eq-eqb, ne-eqb, lt-ltb, le-ltb}
 use Rattle.epa_polytope.specs.Stores.{Lists}
-use Rattle.epa_polytope.specs.Silhouette.{Question, WalkAnswer, Done, NoRoom, Mesh, Walked, walked, Facing, facing, withMissed, facingFrom, edgePut, notedIf, noted, pass}
+use Rattle.epa_polytope.specs.Silhouette.{Question, WalkAnswer, Done, NoRoom, Mesh, Walked, walked, Facing, facing, withMissed, facingFrom, pairPut, notedIf, noted, pass}
 use Rattle.epa_polytope.specs.Start.{Walk, recursive, plain}
 use Rattle.epa_polytope.specs.Expansion.{passBy}
 use Rattle.epa_polytope.specs.PlainWalk.{Walking, walking, walkingBy, PlainSoFar, putIf, putIn, questionAt, without, answerIf, answerQuestion, turn, plainWalk, plainPass}
@@ -27,7 +27,7 @@ module _ (s : Walking) (q : Question) where
     unfolding putIn
     by-room er = ap (λ (b : Bool). putIf b (ltb (s .held) (length (s .pending) / 2)) s q) e ∙ ap (λ (r : Bool). putIf false r s q) er
 
-    pub in-placed : s .held < length (s .pending) / 2 → {l : List ℕ} → l ≡ edgePut (s .pending) (s .held) q → walking (s .walk) l (s .held + 1) (s .short) ≡ putIn s q
+    pub in-placed : s .held < length (s .pending) / 2 → {l : List ℕ} → l ≡ pairPut (s .pending) (s .held) q → walking (s .walk) l (s .held + 1) (s .short) ≡ putIn s q
     in-placed room el = let t = by-room (lt-ltb _ _ room) in cc
 
     pub in-refused : length (s .pending) / 2 ≤ s .held → walking (s .walk) (s .pending) (s .held) true ≡ putIn s q

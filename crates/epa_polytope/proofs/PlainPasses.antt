@@ -12,7 +12,7 @@ use lib.Seq.{getD-set-same, getD-set-other}
 use lib.Dec.{eqb, ltb}
 use borrow.Author.Tests.{eqb-true, ltb-true, ltb-false}
 use Rattle.epa_polytope.specs.Stores.{liveTo}
-use Rattle.epa_polytope.specs.Silhouette.{Question, WalkAnswer, Done, NoRoom, Mesh, Walked, zeros, facing, withMissed, edgePut, noted, entered, recordedOf}
+use Rattle.epa_polytope.specs.Silhouette.{Question, WalkAnswer, Done, NoRoom, Mesh, Walked, zeros, facing, withMissed, pairPut, noted, entered, recordedOf}
 use Rattle.epa_polytope.specs.PlainWalk.{Walking, walking, putIf, putIn, questionAt, without, answerIf, answerQuestion, turn, turns, plainWalk, plainPass}
 use Rattle.epa_polytope.specs.Bounds.{NeighboursIn}
 use Rattle.epa_polytope.specs.Rule.{Zeroed, Returned}
@@ -34,7 +34,7 @@ other-stays l h a b i e =
     (rw (getD-set-other first (h * 2 + 1) (i * 2 + 1) b 0 (λ z. e (omega arith)), getD-set-other l (h * 2) (i * 2 + 1) a 0 (λ z. omega arith)))
 
 -- what is put is read
-put-is : (l : List ℕ) (h : ℕ) (q : Question) → h < length l / 2 → questionAt (edgePut l h q) h ≡ q
+put-is : (l : List ℕ) (h : ℕ) (q : Question) → h < length l / 2 → questionAt (pairPut l h q) h ≡ q
 put-is l h q le =
     let first = set l (h * 2) (q .face) in
     rw (
@@ -58,10 +58,10 @@ comes-back l l0 h m g r =
         lower a b e = omega arith
 
 -- and where one goes in, they are used
-goes-in : (l l0 : List ℕ) (h m : ℕ) (q : Question) → h ≤ m → Returned 0 (h * 2) (m * 2) l l0 → Returned 0 ((h + 1) * 2) (max m (h + 1) * 2) (edgePut l h q) l0
+goes-in : (l l0 : List ℕ) (h m : ℕ) (q : Question) → h ≤ m → Returned 0 (h * 2) (m * 2) l l0 → Returned 0 ((h + 1) * 2) (max m (h + 1) * 2) (pairPut l h q) l0
 goes-in l l0 h m q g r =
     let e : max (m * 2) ((h + 1) * 2) ≡ max m (h + 1) * 2 = omega arith in
-    rw (← e) (used r (edgePut l h q) ((h + 1) * 2) (omega arith)
+    rw (← e) (used r (pairPut l h q) ((h + 1) * 2) (omega arith)
     (after (le-refl _) (one-set (set l (h * 2) (q .face)) (h * 2 + 1) (q .corner) ((h + 1) * 2) (omega arith)) (one-set l (h * 2) (q .face) ((h + 1) * 2) (omega arith))))
 
 -- ---- at every moment
@@ -190,7 +190,7 @@ module _ (m : Mesh) (N : ℕ) (h : NeighboursIn N N (m .ids)) (w : Walked) (l0 :
       half : length (s .pending) / 2 ≡ length l0 / 2
       half = ap (λ (x : ℕ). x / 2) (st .places)
 
-      each : (i : ℕ) → i < s .held + 1 → s .held < length (s .pending) / 2 → Dec (i ≡ s .held) → Asked N (questionAt (edgePut (s .pending) (s .held) q) i)
+      each : (i : ℕ) → i < s .held + 1 → s .held < length (s .pending) / 2 → Dec (i ≡ s .held) → Asked N (questionAt (pairPut (s .pending) (s .held) q) i)
       each i l room (yes e) = rw (e, put-is (s .pending) (s .held) q room) y
       each i l room (no e) = rw (other-stays (s .pending) (s .held) (q .face) (q .corner) i e) (st .asked i (lower l e))
         where

@@ -9,7 +9,7 @@ use lib.ListN.{length, getD, set, length-set}
 use lib.Dec.{eqb, ltb}
 use lib.Seq.{getD-set-same, getD-set-other}
 use borrow.Author.Tests.{eqb-true, eqb-false, eq-eqb, ne-eqb, lt-ltb}
-use Rattle.epa_polytope.specs.Silhouette.{Question, WalkAnswer, Done, NoRoom, Mesh, Walked, zeros, facing, edgePut, noted, entered, walk, pass}
+use Rattle.epa_polytope.specs.Silhouette.{Question, WalkAnswer, Done, NoRoom, Mesh, Walked, zeros, facing, pairPut, noted, entered, walk, pass}
 use Rattle.epa_polytope.specs.PlainWalk.{Walking, walking, putIf, putIn, questionAt, without, answerIf, answerQuestion, turnBy, turn, turns, plainWalk, plainPass}
 use Rattle.epa_polytope.proofs.Walks.{zeros-set, noted-deletes-none, walk-full, walk-dead, walk-edge, walk-seen}
 
@@ -35,7 +35,7 @@ module _ (s : Walking) (q : Question) where
       by false false = omega arith
 
   -- where there is room it is held
-  pub put-placed : s .short ≡ false → s .held < length (s .pending) / 2 → putIn s q ≡ walking (s .walk) (edgePut (s .pending) (s .held) q) (s .held + 1) false
+  pub put-placed : s .short ≡ false → s .held < length (s .pending) / 2 → putIn s q ≡ walking (s .walk) (pairPut (s .pending) (s .held) q) (s .held + 1) false
   unfolding putIn
   put-placed e l = rw (e, lt-ltb _ _ l)
 
@@ -210,7 +210,7 @@ below-stays l h a b (suc j) le =
     (rw (getD-set-other first (h * 2 + 1) (j * 2 + 1) b 0 (λ z. omega arith), getD-set-other l (h * 2) (j * 2 + 1) a 0 (λ z. omega arith))
     (ap (λ (x : List Question). questionAt l j ∷ x) (below-stays l h a b j (omega arith))))
 
-put-question : (l : List ℕ) (h : ℕ) (q : Question) → h < length l / 2 → questionAt (edgePut l h q) h ≡ q
+put-question : (l : List ℕ) (h : ℕ) (q : Question) → h < length l / 2 → questionAt (pairPut l h q) h ≡ q
 put-question l h q le =
     let first = set l (h * 2) (q .face) in
     rw (
@@ -219,7 +219,7 @@ put-question l h q le =
       getD-set-same l (h * 2) (q .face) 0 (omega arith),
     )
 
-put-held : (l : List ℕ) (h : ℕ) (q : Question) → h < length l / 2 → heldFrom (edgePut l h q) (h + 1) ≡ q ∷ heldFrom l h
+put-held : (l : List ℕ) (h : ℕ) (q : Question) → h < length l / 2 → heldFrom (pairPut l h q) (h + 1) ≡ q ∷ heldFrom l h
 unfolding heldFrom
 put-held l h q le =
     rw (native.Mathlib.Numerals.add-one h) (rw (put-question l h q le, below-stays l h (q .face) (q .corner) h (le-refl h)))
@@ -238,19 +238,19 @@ same-length l h a b = length-set (set l (h * 2) a) (h * 2 + 1) b ∙ length-set 
 
 -- a seen face's two questions have room, and are the next to be asked
 module _ (w : Walked) (l : List ℕ) (h : ℕ) (q1 q2 : Question) (room : h + 2 ≤ length l / 2) where
-  both-put : putIn (putIn (walking w l h false) q2) q1 ≡ walking w (edgePut (edgePut l h q2) (h + 1) q1) (h + 1 + 1) false
+  both-put : putIn (putIn (walking w l h false) q2) q1 ≡ walking w (pairPut (pairPut l h q2) (h + 1) q1) (h + 1 + 1) false
   both-put =
-      let s1 = walking w (edgePut l h q2) (h + 1) false in
+      let s1 = walking w (pairPut l h q2) (h + 1) false in
       ap (λ (x : Walking). putIn x q1) (put-placed (walking w l h false) q2 refl (omega arith))
       ∙ put-placed s1 q1 refl (omega (arith, ap (λ (n : ℕ). n / 2) (same-length l h (q2 .face) (q2 .corner))))
 
-  both-held : heldFrom (edgePut (edgePut l h q2) (h + 1) q1) (h + 1 + 1) ≡ q1 ∷ q2 ∷ heldFrom l h
+  both-held : heldFrom (pairPut (pairPut l h q2) (h + 1) q1) (h + 1 + 1) ≡ q1 ∷ q2 ∷ heldFrom l h
   both-held =
-      put-held (edgePut l h q2) (h + 1) q1 (omega (arith, ap (λ (n : ℕ). n / 2) (same-length l h (q2 .face) (q2 .corner))))
+      put-held (pairPut l h q2) (h + 1) q1 (omega (arith, ap (λ (n : ℕ). n / 2) (same-length l h (q2 .face) (q2 .corner))))
       ∙ ap (λ (x : List Question). q1 ∷ x) (put-held l h q2 (omega arith))
 
-  both-length : length (edgePut (edgePut l h q2) (h + 1) q1) ≡ length l
-  both-length = same-length (edgePut l h q2) (h + 1) (q1 .face) (q1 .corner) ∙ same-length l h (q2 .face) (q2 .corner)
+  both-length : length (pairPut (pairPut l h q2) (h + 1) q1) ≡ length l
+  both-length = same-length (pairPut l h q2) (h + 1) (q1 .face) (q1 .corner) ∙ same-length l h (q2 .face) (q2 .corner)
 
 -- a turn, where the walk from wherever it leads comes to the recursive walks
 module _ (n : ℕ) (m : Mesh) (s : Walking) (eb : s .short ≡ false) (l : potential s ≤ suc n) (a : Ample s)
@@ -301,7 +301,7 @@ module _ (n : ℕ) (m : Mesh) (s : Walking) (eb : s .short ≡ false) (l : poten
         let q2 = facing (m .ids) (q .face) (q .corner) in
         let less = zeros-set (s .walk .deleted) (q .face) z in
         let fits : h + 2 ≤ length rest / 2 = omega (arith, room, less) in
-        let u = walking (entered m (s .walk) q) (edgePut (edgePut rest h q2) (h + 1) q1) (h + 1 + 1) false in
+        let u = walking (entered m (s .walk) q) (pairPut (pairPut rest h q2) (h + 1) q1) (h + 1 + 1) false in
         let long = ap (λ (x : ℕ). x / 2) (both-length (entered m (s .walk) q) rest h q1 q2 fits) in
         after u (turn-seen m s eb ea eh z ev ∙ both-put (entered m (s .walk) q) rest h q1 q2 fits) (ih u refl (omega (arith, less)) (omega (arith, room, less, long)))
         (rw (both-held (entered m (s .walk) q) rest h q1 q2 fits, kept, ← walk-seen m (s .walk) q ea z ev))
@@ -328,31 +328,31 @@ module _ (m : Mesh) (w : Walked) (l : List ℕ) (a b c : Question) (room : 3 + z
   start = walking w l 0 false
 
   abbrev three-in : Walking
-  three-in = walking w (edgePut (edgePut (edgePut l 0 c) 1 b) 2 a) 3 false
+  three-in = walking w (pairPut (pairPut (pairPut l 0 c) 1 b) 2 a) 3 false
 
   put-three : putIn (putIn (putIn start c) b) a ≡ three-in
   put-three =
       let r1 = ap (λ (n : ℕ). n / 2) (same-length l 0 (c .face) (c .corner)) in
-      let r2 = ap (λ (n : ℕ). n / 2) (same-length (edgePut l 0 c) 1 (b .face) (b .corner)) in
+      let r2 = ap (λ (n : ℕ). n / 2) (same-length (pairPut l 0 c) 1 (b .face) (b .corner)) in
       ap (λ (x : Walking). putIn (putIn x b) a) (put-placed start c refl (omega arith))
-      ∙ ap (λ (x : Walking). putIn x a) (put-placed (walking w (edgePut l 0 c) 1 false) b refl (omega (arith, r1)))
-      ∙ put-placed (walking w (edgePut (edgePut l 0 c) 1 b) 2 false) a refl (omega (arith, r1, r2))
+      ∙ ap (λ (x : Walking). putIn x a) (put-placed (walking w (pairPut l 0 c) 1 false) b refl (omega (arith, r1)))
+      ∙ put-placed (walking w (pairPut (pairPut l 0 c) 1 b) 2 false) a refl (omega (arith, r1, r2))
 
   three-held : heldFrom (three-in .pending) 3 ≡ a ∷ b ∷ c ∷ []
   unfolding heldFrom
   three-held =
       let r1 = ap (λ (n : ℕ). n / 2) (same-length l 0 (c .face) (c .corner)) in
-      let r2 = ap (λ (n : ℕ). n / 2) (same-length (edgePut l 0 c) 1 (b .face) (b .corner)) in
-      put-held (edgePut (edgePut l 0 c) 1 b) 2 a (omega (arith, r1, r2))
-      ∙ ap (λ (x : List Question). a ∷ x) (put-held (edgePut l 0 c) 1 b (omega (arith, r1)))
+      let r2 = ap (λ (n : ℕ). n / 2) (same-length (pairPut l 0 c) 1 (b .face) (b .corner)) in
+      put-held (pairPut (pairPut l 0 c) 1 b) 2 a (omega (arith, r1, r2))
+      ∙ ap (λ (x : List Question). a ∷ x) (put-held (pairPut l 0 c) 1 b (omega (arith, r1)))
       ∙ ap (λ (x : List Question). a ∷ b ∷ x) (put-held l 0 c (omega arith))
 
   three-drained : Drained m three-in (plainWalk m three-in)
   unfolding plainWalk
   three-drained =
       let r1 = ap (λ (n : ℕ). n / 2) (same-length l 0 (c .face) (c .corner)) in
-      let r2 = ap (λ (n : ℕ). n / 2) (same-length (edgePut l 0 c) 1 (b .face) (b .corner)) in
-      let r3 = ap (λ (n : ℕ). n / 2) (same-length (edgePut (edgePut l 0 c) 1 b) 2 (a .face) (a .corner)) in
+      let r2 = ap (λ (n : ℕ). n / 2) (same-length (pairPut l 0 c) 1 (b .face) (b .corner)) in
+      let r3 = ap (λ (n : ℕ). n / 2) (same-length (pairPut (pairPut l 0 c) 1 b) 2 (a .face) (a .corner)) in
       drained (potential three-in) m three-in refl (le-refl _) (omega (arith, r1, r2, r3))
 
   pub plain-is-recursive : plainPass m start a b c .walk ≡ pass m w a b c

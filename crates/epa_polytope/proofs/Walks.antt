@@ -9,7 +9,7 @@ use lib.ListN.{length, getD, set, length-set}
 use lib.Dec.{eqb, ltb}
 use borrow.Author.Tests.{eqb-true, eq-eqb, ne-eqb, ltb-true, ltb-false}
 use Rattle.epa_polytope.specs.Stores.{cornerIn, liveTo}
-use Rattle.epa_polytope.specs.Silhouette.{WalkAnswer, Done, NoRoom, Question, Mesh, Walked, walked, zeros, Lookup, Facing, FoundAt, Missing, nextCcwPtId, cornerOr0, misses, lookup, facing, withMissed, facingFrom, entered, edgePut, notedIf, noted, askIf, ask, walkIn, walk, pass, recordedOf}
+use Rattle.epa_polytope.specs.Silhouette.{WalkAnswer, Done, NoRoom, Question, Mesh, Walked, walked, zeros, Lookup, Facing, FoundAt, Missing, nextCcwPtId, cornerOr0, misses, lookup, facing, withMissed, facingFrom, entered, pairPut, notedIf, noted, askIf, ask, walkIn, walk, pass, recordedOf}
 use Rattle.epa_polytope.specs.Bounds.{NeighboursIn}
 use Rattle.epa_polytope.specs.Rule.{Untouched}
 use Rattle.epa_polytope.proofs.Basics.{EdgesIn, edges-put, live-delete}
@@ -165,7 +165,7 @@ abbrev pub Recorded : ℕ → Walked → WalkAnswer → Type 0
 Recorded N s (Done n) = EdgesIn N n (s .edges)
 Recorded N s NoRoom = Unit {0}
 
-length-put : (l : List ℕ) (n : ℕ) (q : Question) → length (edgePut l n q) ≡ length l
+length-put : (l : List ℕ) (n : ℕ) (q : Question) → length (pairPut l n q) ≡ length l
 length-put l n q = length-set (set l (n * 2) (q .face)) (n * 2 + 1) (q .corner) ∙ length-set l (n * 2) (q .face)
 
 room-noted : (s : Walked) (n : ℕ) (q : Question) → length (noted s n q .edges) ≡ length (s .edges)
@@ -269,7 +269,7 @@ module _ (m : Mesh) (N : ℕ) (h : NeighboursIn N N (m .ids)) where
 
       by : (b : Bool) → ltb n (edgeRoom s) ≡ b → Reached N s (notedIf b s n q)
       by true t =
-          let room : length (edgePut (s .edges) n q) ≡ length (s .edges) = length-put (s .edges) n q in
+          let room : length (pairPut (s .edges) n q) ≡ length (s .edges) = length-put (s .edges) n q in
           record {
             sameRoom = room;
             more = omega (arith, was);

@@ -16,7 +16,7 @@ use Rattle.vector.specs.declared.vec3.Vec3.{Vec3}
 use Rattle.epa_polytope.specs.declared.types.Begun.the-variants as Begun
 use Rattle.epa_polytope.specs.declared.types.Begun.{Begun}
 use Rattle.epa_polytope.specs.declared.types.Best.{Best}
-use Rattle.epa_polytope.specs.declared.types.End.the-variants.{Panics, NoRoom as NoRoomIn}
+use Rattle.epa_polytope.specs.declared.types.End.the-variants as End
 use Rattle.epa_polytope.specs.declared.types.Store.the-variants.{Edges, Pending}
 use Rattle.epa_polytope.specs.declared.types.PlainSoFar.{PlainSoFar}
 use Rattle.epa_polytope.specs.declared.types.WalkAnswer.{WalkAnswer}
@@ -68,7 +68,7 @@ secondOf w p = maybeOf (firstFar w p 6 0)
 
 -- `startVertices`, of what has to be a simplex: the first two steps of `begin`
 abbrev pub simplexVertices : World → VoronoiSimplex → Act Nil
-simplexVertices w x = stopIf (not (isSimplex x)) (Panics NotASimplex) >> startVertices w x
+simplexVertices w x = stopIf (not (isSimplex x)) (End.Panics NotASimplex) >> startVertices w x
 
 -- the tolerance goes on with what the first faces leave
 abbrev pub readyOf : Step → Float → Begun
@@ -79,9 +79,9 @@ readyOf (Ended e c) tol = Begun.Ended e c
 
 -- how a run goes on after it, with the tally c
 abbrev pub finishedIf : Bool → WalkAnswer → Tally → Step
-finishedIf true a c = Ended (NoRoomIn Pending) c
+finishedIf true a c = Ended (End.NoRoom Pending) c
 finishedIf false (Done n) c = Onward c
-finishedIf false NoRoom c = Ended (NoRoomIn Edges) c
+finishedIf false NoRoom c = Ended (End.NoRoom Edges) c
 
 abbrev pub finishedOf : Tally → ℕ → PlainSoFar → Step
 finishedOf c room r = finishedIf (r .short) (r .answer) (passedTally (recordedOf room (r .answer)) (r .held) (r .missed) c)

@@ -5,7 +5,7 @@ use mathlib.Core.List.{List}
 use mathlib.Core.Bool.{Bool, true, false}
 use lib.ListN.{length, getD, set}
 use lib.Dec.{eqb, ltb}
-use Rattle.epa_polytope.specs.Silhouette.{Question, WalkAnswer, Done, NoRoom, Mesh, Walked, walked, facing, edgePut, noted, entered, zeros}
+use Rattle.epa_polytope.specs.Silhouette.{Question, WalkAnswer, Done, NoRoom, Mesh, Walked, walked, facing, pairPut, noted, entered, zeros}
 pub use Rattle.epa_polytope.specs.declared.types.PlainSoFar.{PlainSoFar}
 
 -- what a plain walk changes: what the recursive one does, and the pending questions, two numbers each, of which so many are held; and whether there was no place for one
@@ -26,7 +26,7 @@ walkingBy deleted edges pending r = walking (walked deleted edges (r .missed) (r
 
 abbrev pub putIf : Bool → Bool → Walking → Question → Walking
 putIf true room s q = s
-putIf false true s q = walking (s .walk) (edgePut (s .pending) (s .held) q) (s .held + 1) false
+putIf false true s q = walking (s .walk) (pairPut (s .pending) (s .held) q) (s .held + 1) false
 putIf false false s q = walking (s .walk) (s .pending) (s .held) true
 
 -- if none was refused before it, and there is room for it

@@ -4,7 +4,7 @@ use mathlib.Core.List.{List, [], _∷_}
 use mathlib.Core.Bool.{Bool, true, false, cond}
 use lib.ListN.{length, getD, set}
 use lib.Dec.{eqb, ltb}
-use Rattle.epa_polytope.specs.Stores.{cornerIn, neighbourIn, one}
+use Rattle.epa_polytope.specs.Stores.{cornerIn, neighbourIn, oneIfZero}
 pub use Rattle.epa_polytope.specs.declared.types.WalkAnswer.{WalkAnswer}
 pub use Rattle.epa_polytope.specs.declared.types.WalkAnswer.the-variants.{Done, NoRoom}
 pub use Rattle.epa_polytope.specs.declared.types.WalkSoFar.{WalkSoFar}
@@ -69,11 +69,11 @@ facingFrom ids f k n = record { question = facing ids f k; missed = withMissed i
 -- ---- the walk
 
 -- `self.silhouette.push(SilhouetteEdge::new(id, opp_pt_id))`, the n-th, if there is room for it
-abbrev pub edgePut : List ℕ → ℕ → Question → List ℕ
-edgePut l n q = set (set l (n * 2) (q .face)) (n * 2 + 1) (q .corner)
+abbrev pub pairPut : List ℕ → ℕ → Question → List ℕ
+pairPut l n q = set (set l (n * 2) (q .face)) (n * 2 + 1) (q .corner)
 
 abbrev pub notedIf : Bool → Walked → ℕ → Question → Walked
-notedIf true s n q = walked (s .deleted) (edgePut (s .edges) n q) (s .missed) (Done (n + 1))
+notedIf true s n q = walked (s .deleted) (pairPut (s .edges) n q) (s .missed) (Done (n + 1))
 notedIf false s n q = walked (s .deleted) (s .edges) (s .missed) NoRoom
 
 abbrev pub noted : Walked → ℕ → Question → Walked
@@ -110,7 +110,7 @@ recordedOf room NoRoom = room
 -- how many places of a list are zero
 unfoldable pub zeros : List ℕ → ℕ
 zeros [] = 0
-zeros (x ∷ xs) = one x + zeros xs
+zeros (x ∷ xs) = oneIfZero x + zeros xs
 
 -- the walk: no question that is as deep as there are live faces finds one that is live (`walk-step` of proofs/Walks.antt)
 unfoldable pub walk : Mesh → Walked → Question → Walked

@@ -175,14 +175,15 @@ faceCells corners neighbours = corners .a ∷ corners .b ∷ corners .c ∷ neig
 abbrev pub putFace : List ℕ → ℕ → Three → Three → List ℕ
 putFace l n corners neighbours = sets l (n * 6) (faceCells corners neighbours)
 
--- how many of the first n faces are live
-abbrev pub one : ℕ → ℕ
-one zero = 1
-one (suc n) = 0
+-- 1 for a mark that is zero, which is that of a live face
+abbrev pub oneIfZero : ℕ → ℕ
+oneIfZero zero = 1
+oneIfZero (suc n) = 0
 
+-- how many of the first n faces are live
 unfoldable pub liveTo : ℕ → List ℕ → ℕ
 liveTo zero d = 0
-liveTo (suc n) d = one (getD d n 1) + liveTo n d
+liveTo (suc n) d = oneIfZero (getD d n 1) + liveTo n d
 
 abbrev pub live : State → ℕ
 live s = liveTo (s .tally .faces) (s .lists .deleted)

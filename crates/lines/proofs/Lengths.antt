@@ -8,7 +8,7 @@ use lib.Ieee.{Float, Format, binary32, binary64}
 use borrow.Author.Tests.{le-leb}
 use Rattle.vector.specs.declared.vec3.Vec3.{Vec3}
 use Rattle.lines.specs.Text.{placeOf, hexPair, hexOf, decimalOf}
-use Rattle.lines.specs.Lines.{floatText, vectorText, threeText, countText, countsText, floatsOf, countsOf, lineOf, badLine, lastLine}
+use Rattle.lines.specs.Lines.{floatText, vectorText, threeText, countText, countsText, floatsTextOf, countsTextOf, lineOf, badLine, lastLine}
 use Rattle.lines.specs.declared.line.Counts.{Counts}
 use Rattle.lines.specs.declared.line.Outcome.{Outcome}
 use Rattle.lines.specs.declared.line.Outcome.the-variants.{ClosestPoints, Proximity, NoIntersection, Penetration, NoAnswer, Panic, NoPlace}
@@ -47,8 +47,8 @@ counts-length c =
     simp length-append
     (omega (arith, count-length (c .expansions), count-length (c .made), count-length (c .live), count-length (c .edges), count-length (c .missed)))
 
-pub floats-length : (f : Format) (o : Outcome) → length (floatsOf f o) ≤ 9 * floatSize f
-unfolding floatsOf
+pub floats-length : (f : Format) (o : Outcome) → length (floatsTextOf f o) ≤ 9 * floatSize f
+unfolding floatsTextOf
 floats-length f (ClosestPoints a b n) = omega (arith, three-length f a b n)
 floats-length f (Proximity v) = omega (arith, vector-length f v)
 floats-length f (NoIntersection v) = omega (arith, vector-length f v)
@@ -57,8 +57,8 @@ floats-length f (NoAnswer c) = omega arith
 floats-length f Panic = omega arith
 floats-length f (NoPlace c) = omega arith
 
-pub five-length : (o : Outcome) → length (countsOf o) ≤ 105
-unfolding countsOf
+pub five-length : (o : Outcome) → length (countsTextOf o) ≤ 105
+unfolding countsTextOf
 five-length (ClosestPoints a b n) = omega arith
 five-length (Proximity v) = omega arith
 five-length (NoIntersection v) = omega arith

@@ -45,24 +45,24 @@ letterOf Panic = 88
 letterOf (NoPlace c) = 82
 
 -- nine floats, three, or none
-unfoldable pub floatsOf : Format → Outcome → List ℕ
-floatsOf f (ClosestPoints a b n) = threeText f a b n
-floatsOf f (Proximity v) = vectorText f v
-floatsOf f (NoIntersection v) = vectorText f v
-floatsOf f (Penetration a b n c) = threeText f a b n
-floatsOf f (NoAnswer c) = []
-floatsOf f Panic = []
-floatsOf f (NoPlace c) = []
+unfoldable pub floatsTextOf : Format → Outcome → List ℕ
+floatsTextOf f (ClosestPoints a b n) = threeText f a b n
+floatsTextOf f (Proximity v) = vectorText f v
+floatsTextOf f (NoIntersection v) = vectorText f v
+floatsTextOf f (Penetration a b n c) = threeText f a b n
+floatsTextOf f (NoAnswer c) = []
+floatsTextOf f Panic = []
+floatsTextOf f (NoPlace c) = []
 
 -- the five counts end the lines of P, N and R
-unfoldable pub countsOf : Outcome → List ℕ
-countsOf (ClosestPoints a b n) = []
-countsOf (Proximity v) = []
-countsOf (NoIntersection v) = []
-countsOf (Penetration a b n c) = countsText c
-countsOf (NoAnswer c) = countsText c
-countsOf Panic = []
-countsOf (NoPlace c) = countsText c
+unfoldable pub countsTextOf : Outcome → List ℕ
+countsTextOf (ClosestPoints a b n) = []
+countsTextOf (Proximity v) = []
+countsTextOf (NoIntersection v) = []
+countsTextOf (Penetration a b n c) = countsText c
+countsTextOf (NoAnswer c) = countsText c
+countsTextOf Panic = []
+countsTextOf (NoPlace c) = countsText c
 
 -- document 01's number of each case: 0 for an answer, and 1, 2 and 3 for the refusals
 abbrev pub outcomeNumber : Outcome → ℕ
@@ -100,7 +100,7 @@ outcomeValues (NoPlace c) = values zeroV zeroV zeroV c
 
 -- a record's: its number from 1, the letter, floats and counts
 unfoldable pub lineOf : Format → ℕ → Outcome → List ℕ
-lineOf f number o = decimalOf number ++ 32 ∷ [] ++ letterOf o ∷ [] ++ floatsOf f o ++ countsOf o ++ 10 ∷ []
+lineOf f number o = decimalOf number ++ 32 ∷ [] ++ letterOf o ∷ [] ++ floatsTextOf f o ++ countsTextOf o ++ 10 ∷ []
 
 -- `separation 1`
 unfoldable pub firstLine : List ℕ

@@ -5,7 +5,7 @@ ghost use Prim.Native.Nat.{_+_, _≤_};
 ghost use lib.Ieee.{binary32};
 ghost use lib.ListN.{length};
 ghost use Rattle.lines.specs.Text.{Put, after, placeOf};
-ghost use Rattle.lines.specs.Lines.{floatText, vectorText, threeText, countText, countsText, letterOf, floatsOf, countsOf};
+ghost use Rattle.lines.specs.Lines.{floatText, vectorText, threeText, countText, countsText, letterOf, floatsTextOf, countsTextOf};
 ghost use Rattle.lines.specs.Lines.{lineOf, firstLine, badLine, lastLine};
 use crate::text;
 use crate::text::Placed;
@@ -71,7 +71,7 @@ fn put_three(out: &mut [u8], at: usize, a: Vec3, b: Vec3, c: Vec3) -> usize
 
 fn put_floats(out: &mut [u8], at: usize, outcome: Outcome) -> usize
     requires { ⌜ at + 81 ≤ length (now out) ⌝ }
-    ensures { λ r. ⌜ Put (now (out .entry)) at (floatsOf binary32 outcome) (now (out .exit)) r ⌝ }
+    ensures { λ r. ⌜ Put (now (out .entry)) at (floatsTextOf binary32 outcome) (now (out .exit)) r ⌝ }
 {
     match outcome {
         Outcome::ClosestPoints(a, b, n) => put_three(out, at, a, b, n),
@@ -108,7 +108,7 @@ fn put_five(out: &mut [u8], at: usize, c: Counts) -> usize
 
 fn put_counts(out: &mut [u8], at: usize, outcome: Outcome) -> usize
     requires { ⌜ at + 105 ≤ length (now out) ⌝ }
-    ensures { λ r. ⌜ Put (now (out .entry)) at (countsOf outcome) (now (out .exit)) r ⌝ }
+    ensures { λ r. ⌜ Put (now (out .entry)) at (countsTextOf outcome) (now (out .exit)) r ⌝ }
 {
     match outcome {
         Outcome::ClosestPoints(_, _, _) => at,

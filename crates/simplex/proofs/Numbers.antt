@@ -11,11 +11,11 @@ use Rattle.simplex.specs.declared.voronoi_simplex.VoronoiSimplex.{Vorono
 use Rattle.simplex.specs.declared.operations.Answer.{Answer}
 use Rattle.simplex.specs.declared.operations.Answer.the-variants.{Yes, No, Refused as NoAnswer}
 use Rattle.simplex.specs.declared.operations.Added.{Added}
-use Rattle.simplex.specs.declared.operations.Number.the-variants.{Is, Refused as NoNumber}
-use Rattle.simplex.specs.declared.operations.Size.the-variants.{Is as IsSize, Refused as NoSize}
+use Rattle.simplex.specs.declared.operations.Scalar.the-variants.{Is, Refused as NoScalar}
+use Rattle.simplex.specs.declared.operations.Dimension.the-variants.{Is as IsDimension, Refused as NoDimension}
 use Rattle.simplex.specs.declared.operations.Corner.the-variants.{At, Refused as NoCorner}
 use Rattle.simplex.specs.Simplex.{isSimplex, vertexAt, swapIn, resetIn, savedIn, grownIn, nearSimplex, hasPoint, maxSqLenOf, translatedIn}
-use Rattle.simplex.specs.Operations.{outcomeNumber, answerNumber, numberNumber, sizeNumber, cornerNumber, alteredOr, swapSimplex, resetSimplex, projCoord, cornerPoint, prevProjCoord, prevPoint, containsPoint, dimensionOf, prevDimensionOf, addPoint, maxSqLen, modifyPnts}
+use Rattle.simplex.specs.Operations.{alteredNumber, answerNumber, scalarNumber, dimensionNumber, cornerNumber, alteredOr, swapSimplex, resetSimplex, projCoord, cornerPoint, prevProjCoord, prevPoint, containsPoint, dimensionOf, prevDimensionOf, addPoint, maxSqLen, modifyPnts}
 
 -- 0 where a test holds, refusal 2 where it does not
 abbrev pub refusedUnless : Bool → ℕ
@@ -23,20 +23,20 @@ refusedUnless ok = cond ok 0 2
 
 -- ---- of each kind of answer
 
-of-altered : (ok : Bool) (s t : VoronoiSimplex) → outcomeNumber (alteredOr ok s t .outcome) ≡ refusedUnless ok
-unfolding outcomeNumber
+of-altered : (ok : Bool) (s t : VoronoiSimplex) → alteredNumber (alteredOr ok s t .outcome) ≡ refusedUnless ok
+unfolding alteredNumber
 of-altered true s t = refl
 of-altered false s t = refl
 
-of-number : (ok : Bool) (x : Float) → numberNumber (cond ok (Is x) NoNumber) ≡ refusedUnless ok
-unfolding numberNumber
-of-number true x = refl
-of-number false x = refl
+of-scalar : (ok : Bool) (x : Float) → scalarNumber (cond ok (Is x) NoScalar) ≡ refusedUnless ok
+unfolding scalarNumber
+of-scalar true x = refl
+of-scalar false x = refl
 
-of-size : (ok : Bool) (n : ℕ) → sizeNumber (cond ok (IsSize n) NoSize) ≡ refusedUnless ok
-unfolding sizeNumber
-of-size true n = refl
-of-size false n = refl
+of-dimension : (ok : Bool) (n : ℕ) → dimensionNumber (cond ok (IsDimension n) NoDimension) ≡ refusedUnless ok
+unfolding dimensionNumber
+of-dimension true n = refl
+of-dimension false n = refl
 
 of-corner : (ok : Bool) (v : Vertex) → cornerNumber (cond ok (At v) NoCorner) ≡ refusedUnless ok
 unfolding cornerNumber
@@ -62,15 +62,15 @@ of-added false near s t u = refl
 -- ---- of each operation
 
 module _ (s : VoronoiSimplex) where
-  pub swap-number : (i1 i2 : ℕ) → outcomeNumber (swapSimplex s i1 i2 .outcome) ≡ refusedUnless (isSimplex s && ltb i1 4 && ltb i2 4)
+  pub swap-number : (i1 i2 : ℕ) → alteredNumber (swapSimplex s i1 i2 .outcome) ≡ refusedUnless (isSimplex s && ltb i1 4 && ltb i2 4)
   unfolding swapSimplex
   swap-number i1 i2 = of-altered (isSimplex s && ltb i1 4 && ltb i2 4) s (swapIn s i1 i2)
 
-  pub reset-number : (pt : Vertex) → outcomeNumber (resetSimplex s pt .outcome) ≡ refusedUnless (isSimplex s)
+  pub reset-number : (pt : Vertex) → alteredNumber (resetSimplex s pt .outcome) ≡ refusedUnless (isSimplex s)
   unfolding resetSimplex
   reset-number pt = of-altered (isSimplex s) s (resetIn s pt)
 
-  pub modify-number : (f : Format) (dir : Vec3) → outcomeNumber (modifyPnts f s dir .outcome) ≡ refusedUnless (isSimplex s)
+  pub modify-number : (f : Format) (dir : Vec3) → alteredNumber (modifyPnts f s dir .outcome) ≡ refusedUnless (isSimplex s)
   unfolding modifyPnts
   modify-number f dir = of-altered (isSimplex s) s (translatedIn f s dir (s .dim + 1))
 
@@ -82,17 +82,17 @@ module _ (s : VoronoiSimplex) where
   unfolding containsPoint
   contains-number pt = of-answer (isSimplex s) (hasPoint s pt (s .dim + 1))
 
-  pub weight-number : (i : ℕ) → numberNumber (projCoord s i) ≡ refusedUnless (isSimplex s && leb i (s .dim) && ltb i 3)
+  pub weight-number : (i : ℕ) → scalarNumber (projCoord s i) ≡ refusedUnless (isSimplex s && leb i (s .dim) && ltb i 3)
   unfolding projCoord
-  weight-number i = of-number (isSimplex s && leb i (s .dim) && ltb i 3) (getD (s .proj) i nan)
+  weight-number i = of-scalar (isSimplex s && leb i (s .dim) && ltb i 3) (getD (s .proj) i nan)
 
-  pub prev-weight-number : (i : ℕ) → numberNumber (prevProjCoord s i) ≡ refusedUnless (isSimplex s && leb i (s .«prev_dim») && ltb i 3)
+  pub prev-weight-number : (i : ℕ) → scalarNumber (prevProjCoord s i) ≡ refusedUnless (isSimplex s && leb i (s .«prev_dim») && ltb i 3)
   unfolding prevProjCoord
-  prev-weight-number i = of-number (isSimplex s && leb i (s .«prev_dim») && ltb i 3) (getD (s .«prev_proj») i nan)
+  prev-weight-number i = of-scalar (isSimplex s && leb i (s .«prev_dim») && ltb i 3) (getD (s .«prev_proj») i nan)
 
-  pub max-number : (f : Format) → numberNumber (maxSqLen f s) ≡ refusedUnless (isSimplex s)
+  pub max-number : (f : Format) → scalarNumber (maxSqLen f s) ≡ refusedUnless (isSimplex s)
   unfolding maxSqLen
-  max-number f = of-number (isSimplex s) (maxSqLenOf f s (s .dim + 1))
+  max-number f = of-scalar (isSimplex s) (maxSqLenOf f s (s .dim + 1))
 
   pub point-number : (i : ℕ) → cornerNumber (cornerPoint s i) ≡ refusedUnless (isSimplex s && leb i (s .dim))
   unfolding cornerPoint
@@ -102,10 +102,10 @@ module _ (s : VoronoiSimplex) where
   unfolding prevPoint
   prev-point-number i = of-corner (isSimplex s && leb i (s .«prev_dim»)) (vertexAt s (getD (s .«prev_vertices») i 0))
 
-  pub dimension-number : sizeNumber (dimensionOf s) ≡ refusedUnless (isSimplex s)
+  pub dimension-number : dimensionNumber (dimensionOf s) ≡ refusedUnless (isSimplex s)
   unfolding dimensionOf
-  dimension-number = of-size (isSimplex s) (s .dim)
+  dimension-number = of-dimension (isSimplex s) (s .dim)
 
-  pub prev-dimension-number : sizeNumber (prevDimensionOf s) ≡ refusedUnless (isSimplex s)
+  pub prev-dimension-number : dimensionNumber (prevDimensionOf s) ≡ refusedUnless (isSimplex s)
   unfolding prevDimensionOf
-  prev-dimension-number = of-size (isSimplex s) (s .«prev_dim»)
+  prev-dimension-number = of-dimension (isSimplex s) (s .«prev_dim»)

@@ -17,18 +17,18 @@ use Rattle.simplex.specs.declared.operations.Altered.{Altered}
 use Rattle.simplex.specs.declared.operations.Answer.{Answer}
 use Rattle.simplex.specs.declared.operations.Answer.the-variants.{Yes, No, Refused as NoAnswer}
 use Rattle.simplex.specs.declared.operations.Added.{Added}
-use Rattle.simplex.specs.declared.operations.Number.{Number}
-use Rattle.simplex.specs.declared.operations.Number.the-variants.{Is, Refused as NoNumber}
-use Rattle.simplex.specs.declared.operations.Size.{Size}
-use Rattle.simplex.specs.declared.operations.Size.the-variants.{Is as IsSize, Refused as NoSize}
+use Rattle.simplex.specs.declared.operations.Scalar.{Scalar}
+use Rattle.simplex.specs.declared.operations.Scalar.the-variants.{Is, Refused as NoScalar}
+use Rattle.simplex.specs.declared.operations.Dimension.{Dimension}
+use Rattle.simplex.specs.declared.operations.Dimension.the-variants.{Is as IsDimension, Refused as NoDimension}
 use Rattle.simplex.specs.declared.operations.Corner.{Corner}
 use Rattle.simplex.specs.declared.operations.Corner.the-variants.{At, Refused as NoCorner}
 use Rattle.simplex.specs.Simplex.{isSimplex, vertexAt, swapIn, resetIn, savedIn, grownIn, nearSimplex, hasPoint, maxSqLenOf, translatedIn}
 
 -- ---- document 01's number of each answer, 0 or refusal 2, and its value, of the refusal zeros
-unfoldable pub outcomeNumber : Outcome → ℕ
-outcomeNumber Done = 0
-outcomeNumber Refused = 2
+unfoldable pub alteredNumber : Outcome → ℕ
+alteredNumber Done = 0
+alteredNumber Refused = 2
 
 unfoldable pub answerNumber : Answer → ℕ
 answerNumber Yes = 0
@@ -40,21 +40,21 @@ answerValue Yes = true
 answerValue No = false
 answerValue NoAnswer = false
 
-unfoldable pub numberNumber : Number → ℕ
-numberNumber (Is x) = 0
-numberNumber NoNumber = 2
+unfoldable pub scalarNumber : Scalar → ℕ
+scalarNumber (Is x) = 0
+scalarNumber NoScalar = 2
 
-unfoldable pub numberValue : Number → Float
-numberValue (Is x) = x
-numberValue NoNumber = zeroF
+unfoldable pub scalarValue : Scalar → Float
+scalarValue (Is x) = x
+scalarValue NoScalar = zeroF
 
-unfoldable pub sizeNumber : Size → ℕ
-sizeNumber (IsSize n) = 0
-sizeNumber NoSize = 2
+unfoldable pub dimensionNumber : Dimension → ℕ
+dimensionNumber (IsDimension n) = 0
+dimensionNumber NoDimension = 2
 
-unfoldable pub sizeValue : Size → ℕ
-sizeValue (IsSize n) = n
-sizeValue NoSize = 0
+unfoldable pub dimensionValue : Dimension → ℕ
+dimensionValue (IsDimension n) = n
+dimensionValue NoDimension = 0
 
 unfoldable pub cornerNumber : Corner → ℕ
 cornerNumber (At v) = 0
@@ -85,16 +85,16 @@ unfoldable pub resetSimplex : VoronoiSimplex → Vertex → Altered
 resetSimplex s pt = alteredOr (isSimplex s) s (resetIn s pt)
 
 -- `proj_coord`: there are three weights
-unfoldable pub projCoord : VoronoiSimplex → ℕ → Number
-projCoord s i = cond (isSimplex s && leb i (s .dim) && ltb i 3) (Is (getD (s .proj) i nan)) NoNumber
+unfoldable pub projCoord : VoronoiSimplex → ℕ → Scalar
+projCoord s i = cond (isSimplex s && leb i (s .dim) && ltb i 3) (Is (getD (s .proj) i nan)) NoScalar
 
 -- `point`
 unfoldable pub cornerPoint : VoronoiSimplex → ℕ → Corner
 cornerPoint s i = cond (isSimplex s && leb i (s .dim)) (At (vertexAt s i)) NoCorner
 
 -- `prev_proj_coord`
-unfoldable pub prevProjCoord : VoronoiSimplex → ℕ → Number
-prevProjCoord s i = cond (isSimplex s && leb i (s .«prev_dim») && ltb i 3) (Is (getD (s .«prev_proj») i nan)) NoNumber
+unfoldable pub prevProjCoord : VoronoiSimplex → ℕ → Scalar
+prevProjCoord s i = cond (isSimplex s && leb i (s .«prev_dim») && ltb i 3) (Is (getD (s .«prev_proj») i nan)) NoScalar
 
 -- `prev_point`
 unfoldable pub prevPoint : VoronoiSimplex → ℕ → Corner
@@ -105,12 +105,12 @@ unfoldable pub containsPoint : VoronoiSimplex → Vec3 → Answer
 containsPoint s pt = cond (isSimplex s) (cond (hasPoint s pt (s .dim + 1)) Yes No) NoAnswer
 
 -- `dimension`
-unfoldable pub dimensionOf : VoronoiSimplex → Size
-dimensionOf s = cond (isSimplex s) (IsSize (s .dim)) NoSize
+unfoldable pub dimensionOf : VoronoiSimplex → Dimension
+dimensionOf s = cond (isSimplex s) (IsDimension (s .dim)) NoDimension
 
 -- `prev_dimension`
-unfoldable pub prevDimensionOf : VoronoiSimplex → Size
-prevDimensionOf s = cond (isSimplex s) (IsSize (s .«prev_dim»)) NoSize
+unfoldable pub prevDimensionOf : VoronoiSimplex → Dimension
+prevDimensionOf s = cond (isSimplex s) (IsDimension (s .«prev_dim»)) NoDimension
 
 module _ (f : Format) where
   -- `add_point`: dimension 3 is `unreachable!`
@@ -121,8 +121,8 @@ module _ (f : Format) where
       (record { simplex = s; answer = NoAnswer })
 
   -- `max_sq_len`
-  unfoldable pub maxSqLen : VoronoiSimplex → Number
-  maxSqLen s = cond (isSimplex s) (Is (maxSqLenOf f s (s .dim + 1))) NoNumber
+  unfoldable pub maxSqLen : VoronoiSimplex → Scalar
+  maxSqLen s = cond (isSimplex s) (Is (maxSqLenOf f s (s .dim + 1))) NoScalar
 
   -- `modify_pnts`
   unfoldable pub modifyPnts : VoronoiSimplex → Vec3 → Altered

@@ -6,7 +6,7 @@ ghost use Rattle.number.specs.Told.{Told, noValues};
 ghost use Rattle.simplex.specs.Operations.{swapSimplex, resetSimplex, addPoint, modifyPnts};
 ghost use Rattle.simplex.specs.Operations.{projCoord, cornerPoint, prevProjCoord, prevPoint};
 ghost use Rattle.simplex.specs.Operations.{containsPoint, dimensionOf, prevDimensionOf, maxSqLen};
-ghost use Rattle.simplex.specs.Operations.{outcomeNumber, answerNumber, answerValue, numberNumber, numberValue, sizeNumber, sizeValue, cornerNumber, cornerValue};
+ghost use Rattle.simplex.specs.Operations.{alteredNumber, answerNumber, answerValue, scalarNumber, scalarValue, dimensionNumber, dimensionValue, cornerNumber, cornerValue};
 use crate::steps;
 use crate::voronoi_simplex::VoronoiSimplex;
 use shape::Vertex;
@@ -36,13 +36,13 @@ pub struct Added {
 }
 
 // A weight, or the greatest squared length.
-pub enum Number {
+pub enum Scalar {
     Is(f32),
     Refused,
 }
 
 // A dimension.
-pub enum Size {
+pub enum Dimension {
     Is(usize),
     Refused,
 }
@@ -57,7 +57,7 @@ impl VoronoiSimplex {
     // Two vertices change places.
     pub fn swap(self, i1: usize, i2: usize) -> Altered
         ensures answer { λ r. ⌜ r ≡ swapSimplex self i1 i2 ⌝ }
-        ensures told { λ r. ⌜ Told outcomeNumber noValues (r .outcome) (swapSimplex self i1 i2 .outcome) ⌝ }
+        ensures told { λ r. ⌜ Told alteredNumber noValues (r .outcome) (swapSimplex self i1 i2 .outcome) ⌝ }
     {
         if self.is_simplex() & (i1 < 4) & (i2 < 4) {
             let simplex = steps::swap_in(self, i1, i2);
@@ -75,7 +75,7 @@ impl VoronoiSimplex {
     // The simplex becomes the one vertex.
     pub fn reset(self, pt: Vertex) -> Altered
         ensures answer { λ r. ⌜ r ≡ resetSimplex self pt ⌝ }
-        ensures told { λ r. ⌜ Told outcomeNumber noValues (r .outcome) (resetSimplex self pt .outcome) ⌝ }
+        ensures told { λ r. ⌜ Told alteredNumber noValues (r .outcome) (resetSimplex self pt .outcome) ⌝ }
     {
         if self.is_simplex() {
             let simplex = steps::reset_in(self, pt);
@@ -117,14 +117,14 @@ impl VoronoiSimplex {
     }
 
     // Weight i of the last projection: there are three, though there may be four vertices.
-    pub fn proj_coord(self, i: usize) -> Number
+    pub fn proj_coord(self, i: usize) -> Scalar
         ensures answer { λ r. ⌜ r ≡ projCoord self i ⌝ }
-        ensures told { λ r. ⌜ Told numberNumber numberValue r (projCoord self i) ⌝ }
+        ensures told { λ r. ⌜ Told scalarNumber scalarValue r (projCoord self i) ⌝ }
     {
         if self.is_simplex() & (i <= self.dim) & (i < 3) {
-            return Number::Is(self.proj[i]);
+            return Scalar::Is(self.proj[i]);
         }
-        Number::Refused
+        Scalar::Refused
     }
 
     // Vertex i.
@@ -140,14 +140,14 @@ impl VoronoiSimplex {
     }
 
     // Weight i before the last `add_point`.
-    pub fn prev_proj_coord(self, i: usize) -> Number
+    pub fn prev_proj_coord(self, i: usize) -> Scalar
         ensures answer { λ r. ⌜ r ≡ prevProjCoord self i ⌝ }
-        ensures told { λ r. ⌜ Told numberNumber numberValue r (prevProjCoord self i) ⌝ }
+        ensures told { λ r. ⌜ Told scalarNumber scalarValue r (prevProjCoord self i) ⌝ }
     {
         if self.is_simplex() & (i <= self.prev_dim) & (i < 3) {
-            return Number::Is(self.prev_proj[i]);
+            return Scalar::Is(self.prev_proj[i]);
         }
-        Number::Refused
+        Scalar::Refused
     }
 
     // Vertex i before the last `add_point`, wherever a reduction has swapped it since. Where a face reduction has
@@ -178,41 +178,41 @@ impl VoronoiSimplex {
         Answer::Refused
     }
 
-    pub fn dimension(self) -> Size
+    pub fn dimension(self) -> Dimension
         ensures answer { λ r. ⌜ r ≡ dimensionOf self ⌝ }
-        ensures told { λ r. ⌜ Told sizeNumber sizeValue r (dimensionOf self) ⌝ }
+        ensures told { λ r. ⌜ Told dimensionNumber dimensionValue r (dimensionOf self) ⌝ }
     {
         if self.is_simplex() {
-            return Size::Is(self.dim);
+            return Dimension::Is(self.dim);
         }
-        Size::Refused
+        Dimension::Refused
     }
 
-    pub fn prev_dimension(self) -> Size
+    pub fn prev_dimension(self) -> Dimension
         ensures answer { λ r. ⌜ r ≡ prevDimensionOf self ⌝ }
-        ensures told { λ r. ⌜ Told sizeNumber sizeValue r (prevDimensionOf self) ⌝ }
+        ensures told { λ r. ⌜ Told dimensionNumber dimensionValue r (prevDimensionOf self) ⌝ }
     {
         if self.is_simplex() {
-            return Size::Is(self.prev_dim);
+            return Dimension::Is(self.prev_dim);
         }
-        Size::Refused
+        Dimension::Refused
     }
 
     // The greatest squared length of a vertex's point; 0 where none compares greater.
-    pub fn max_sq_len(self) -> Number
+    pub fn max_sq_len(self) -> Scalar
         ensures answer { λ r. ⌜ r ≡ maxSqLen binary32 self ⌝ }
-        ensures told { λ r. ⌜ Told numberNumber numberValue r (maxSqLen binary32 self) ⌝ }
+        ensures told { λ r. ⌜ Told scalarNumber scalarValue r (maxSqLen binary32 self) ⌝ }
     {
         if self.is_simplex() {
-            return Number::Is(steps::max_sq_len_in(self));
+            return Scalar::Is(steps::max_sq_len_in(self));
         }
-        Number::Refused
+        Scalar::Refused
     }
 
     // Every vertex is translated by `dir`: the Rust applies a function, and its one caller translates.
     pub fn modify_pnts(self, dir: Vec3) -> Altered
         ensures answer { λ r. ⌜ r ≡ modifyPnts binary32 self dir ⌝ }
-        ensures told { λ r. ⌜ Told outcomeNumber noValues (r .outcome) (modifyPnts binary32 self dir .outcome) ⌝ }
+        ensures told { λ r. ⌜ Told alteredNumber noValues (r .outcome) (modifyPnts binary32 self dir .outcome) ⌝ }
     {
         if self.is_simplex() {
             let simplex = steps::translated_in(self, dir);

@@ -3,7 +3,7 @@
 ghost use mathlib.Core.Path.{_≡_};
 ghost use lib.Ieee.{binary32};
 ghost use Rattle.number.specs.Told.{Told, noValues};
-ghost use Rattle.simplex.specs.Operations.{resetSimplex, outcomeNumber, addPoint, answerNumber, answerValue};
+ghost use Rattle.simplex.specs.Operations.{resetSimplex, alteredNumber, addPoint, answerNumber, answerValue};
 ghost use Rattle.reduction.specs.Reduction.{projectOrigin, projectedNumber, projectedValues, applyLocation, applicationNumber, projectOriginAndReduce};
 use crate::turns::in_turn;
 use reduction::Application;
@@ -17,7 +17,7 @@ use simplex::VoronoiSimplex;
 // The simplex becomes the one vertex.
 pub fn reset(s: &mut VoronoiSimplex, pt: Vertex) -> Outcome
     ensures answer { λ r. ⌜ (now (s .exit) ≡ resetSimplex (now (s .entry)) pt .simplex) × (r ≡ resetSimplex (now (s .entry)) pt .outcome) ⌝ }
-    ensures told { λ r. ⌜ Told outcomeNumber noValues r (resetSimplex (now (s .entry)) pt .outcome) ⌝ }
+    ensures told { λ r. ⌜ Told alteredNumber noValues r (resetSimplex (now (s .entry)) pt .outcome) ⌝ }
 {
     let r = VoronoiSimplex::reset(*s, pt);
     *s = r.simplex;

@@ -6,8 +6,8 @@ use lib.Ieee.{Format}
 use Rattle.vector.specs.declared.vec3.Vec3.{Vec3}
 use Rattle.vector.specs.Vector.{zeroV, addV, scaleV}
 use Rattle.simplex.specs.declared.voronoi_simplex.VoronoiSimplex.{VoronoiSimplex}
-use Rattle.simplex.specs.declared.operations.Number.{Number}
-use Rattle.simplex.specs.declared.operations.Number.the-variants as Number
+use Rattle.simplex.specs.declared.operations.Scalar.{Scalar}
+use Rattle.simplex.specs.declared.operations.Scalar.the-variants as Scalar
 use Rattle.simplex.specs.declared.operations.Corner.{Corner}
 use Rattle.simplex.specs.declared.operations.Corner.the-variants as Corner
 use Rattle.simplex.specs.Operations.{projCoord, cornerPoint, prevProjCoord, prevPoint}
@@ -28,7 +28,7 @@ witnessesValues (At p1 p2) = record { p1 = p1; p2 = p2 }
 witnessesValues Refused = record { p1 = zeroV; p2 = zeroV }
 
 -- ---- the previous weights, vertices and dimension, or the present ones
-unfoldable pub weightOf : VoronoiSimplex → Bool → ℕ → Number
+unfoldable pub weightOf : VoronoiSimplex → Bool → ℕ → Scalar
 weightOf s prev i = cond prev (prevProjCoord s i) (projCoord s i)
 
 unfoldable pub cornerOf : VoronoiSimplex → Bool → ℕ → Corner
@@ -39,10 +39,10 @@ lastOf s prev = cond prev (s .«prev_dim») (s .dim)
 
 module _ (f : Format) where
   -- one turn of the loop: `res.0 += point.orig1 * coord; res.1 += point.orig2 * coord`. Refused where a reader is.
-  abbrev pub weighed : Witnesses → Number → Corner → Witnesses
-  weighed (At r1 r2) (Number.Is c) (Corner.At v) = At (addV f r1 (scaleV f (v .orig1) c)) (addV f r2 (scaleV f (v .orig2) c))
-  weighed (At r1 r2) (Number.Is c) Corner.Refused = Refused
-  weighed (At r1 r2) Number.Refused v = Refused
+  abbrev pub weighed : Witnesses → Scalar → Corner → Witnesses
+  weighed (At r1 r2) (Scalar.Is c) (Corner.At v) = At (addV f r1 (scaleV f (v .orig1) c)) (addV f r2 (scaleV f (v .orig2) c))
+  weighed (At r1 r2) (Scalar.Is c) Corner.Refused = Refused
+  weighed (At r1 r2) Scalar.Refused v = Refused
   weighed Refused c v = Refused
 
   unfoldable pub withVertex : VoronoiSimplex → Bool → ℕ → Witnesses → Witnesses

@@ -5,7 +5,7 @@ ghost use lib.Ieee.{binary32};
 ghost use Rattle.number.specs.Told.{Told};
 ghost use Rattle.witnesses.specs.Witnesses.{weightOf, cornerOf, lastOf, withVertex, witnessesTo, resultOf, witnessesNumber, witnessesValues};
 use simplex::Corner;
-use simplex::Number;
+use simplex::Scalar;
 use simplex::VoronoiSimplex;
 use vector::Vec3;
 
@@ -15,7 +15,7 @@ pub enum Witnesses {
 }
 
 // Weight i: the previous one, or the present.
-fn weight_of(simplex: VoronoiSimplex, prev: bool, i: usize) -> Number
+fn weight_of(simplex: VoronoiSimplex, prev: bool, i: usize) -> Scalar
     ensures { λ r. ⌜ r ≡ weightOf simplex prev i ⌝ }
 {
     if prev {
@@ -51,7 +51,7 @@ fn with_vertex(simplex: VoronoiSimplex, prev: bool, i: usize, sum: Witnesses) ->
         return Witnesses::Refused;
     };
     let weight = weight_of(simplex, prev, i);
-    let Number::Is(coord) = weight else {
+    let Scalar::Is(coord) = weight else {
         return Witnesses::Refused;
     };
     let corner = corner_of(simplex, prev, i);

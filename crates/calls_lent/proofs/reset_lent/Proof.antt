@@ -44,7 +44,7 @@ use Rattle.shape.specs.declared.vertex.Vertex.{Vertex}
 use Rattle.shape.proofs.vertex.Vertex as X
 use Rattle.shape.proofs.vertex.Vertex.Laws as X′
 use Rattle.number.specs.Told.{Told, noValues}
-use Rattle.simplex.specs.Operations.{resetSimplex, outcomeNumber}
+use Rattle.simplex.specs.Operations.{resetSimplex, alteredNumber}
 use Rattle.simplex.specs.declared.voronoi_simplex.VoronoiSimplex.{VoronoiSimplex}
 use Rattle.simplex.specs.declared.operations.Outcome.{Outcome}
 use Rattle.simplex.specs.declared.operations.Altered.{Altered}
@@ -153,7 +153,7 @@ module _ {M : Type 1} (𝓤 : URA M) (H : Heap 𝓤) (A : Atoms 𝓤) (W : Given
   gives-thin ν γ l w =
       qed W (raw (Thin 𝓤 H A at-mem run .post (to-thin ν γ l) w) ∷ []) ∵ updating ! $
       use1 W (later (some (λ (u : Outcome). ((‵ (flft (ν ∷ []) fullShare) ⊛ ‵ ftrue) ⊛ ‵ (E.the-row .own u (w ∷ []))) ⊛ raw (ensured 𝓤 H A thin.ended (thin.clauses 𝓤 H A at-mem run) (ν ∷ [], tt) (x l γ, (n, tt)) tt u)))) (id⊢ 𝓤 _) $ await ! tt $ pick ! (λ u.
-      split ! $ move ! (1 ∷ []) $ use1 W (some (λ (ws : VoronoiSimplex × (Unit {0} × Unit {0})). ‵ (lasts thin.ended (ν ∷ [], tt) (x l γ, (n, tt)) ws) ⊛ (raw (fact 𝓤 ((ws .0 ≡ r) × (u ≡ o))) ⊛ raw (fact 𝓤 (Told outcomeNumber noValues u o))))) (id⊢ 𝓤 _) $ pick ! (λ ws.
+      split ! $ move ! (1 ∷ []) $ use1 W (some (λ (ws : VoronoiSimplex × (Unit {0} × Unit {0})). ‵ (lasts thin.ended (ν ∷ [], tt) (x l γ, (n, tt)) ws) ⊛ (raw (fact 𝓤 ((ws .0 ≡ r) × (u ≡ o))) ⊛ raw (fact 𝓤 (Told alteredNumber noValues u o))))) (id⊢ 𝓤 _) $ pick ! (λ ws.
       split ! $ move ! (1 ∷ []) $ split ! $ heard ! ((ws .0 ≡ r) × (u ≡ o)) (λ e. drop ! $ fsplit ! $ rewrite ! 0 (λ (d : VoronoiSimplex). ‵ (fres γ (R .coded .code d))) (e .0) refl $
       move ! (2 ∷ []) $ split ! $ split ! $ move ! (2 ∷ []) $ facts ! E.the-row (Is E.the-row) (shows 𝓤 H A E.the-row) u (w ∷ []) (λ is. at-once ! $ check ! (subst (λ d. Is E.the-row d (w ∷ [])) (e .1) is) $ keep ! (0 ∷ 2 ∷ []) $ done !))))
 

@@ -44,7 +44,7 @@ use Rattle.number.proofs.Told.{told}
 use Rattle.shape.specs.declared.vertex.Vertex.{Vertex}
 use Rattle.shape.proofs.vertex.Vertex as X
 use Rattle.shape.proofs.vertex.Vertex.Laws as X′
-use Rattle.simplex.specs.Operations.{resetSimplex, outcomeNumber}
+use Rattle.simplex.specs.Operations.{resetSimplex, alteredNumber}
 use Rattle.simplex.specs.declared.voronoi_simplex.VoronoiSimplex.{VoronoiSimplex}
 use Rattle.simplex.specs.declared.operations.Outcome.{Outcome}
 use Rattle.simplex.specs.declared.operations.Altered.{Altered}
@@ -91,7 +91,7 @@ module _ {M : Type 1} (𝓤 : URA M) (H : Heap 𝓤) (A : Atoms 𝓤) (at-mem : 
 
   -- of what the operation by value ensures, the first clause alone: it has no `&mut`, so what is said of last values is dropped
   core-says : (h : VoronoiSimplex) (n : Vertex) (r : Altered) → ent 𝓤 (ensured 𝓤 H A core.ended (core.clauses 𝓤 H A at-mem run) tt (h, (n, tt)) tt r) (fact 𝓤 (r ≡ resetSimplex h n))
-  core-says h n r = exE 𝓤 _ (λ ws. hears-first 𝓤 (sem 𝓤 H A (lasts core.ended tt (h, (n, tt)) ws)) (r ≡ resetSimplex h n) (Told outcomeNumber noValues (r .outcome) (resetSimplex h n .outcome)))
+  core-says h n r = exE 𝓤 _ (λ ws. hears-first 𝓤 (sem 𝓤 H A (lasts core.ended tt (h, (n, tt)) ws)) (r ≡ resetSimplex h n) (Told alteredNumber noValues (r .outcome) (resetSimplex h n .outcome)))
 
 module _ {M : Type 1} (𝓤 : URA M) (H : Heap 𝓤) (A : Atoms 𝓤) (W : Given 𝓤 H A) (at-mem : Memory → SProp 𝓤) (run : Routine → Fun 𝓤) (κ : Lft) (q : Share) (b o : ℕ) (γ : GName) (h : VoronoiSimplex) (n : Vertex) (n-is : Is Vt n (low n ∷ [])) where
   abbrev Arg : Type 0
