@@ -5,15 +5,14 @@ use lib.Dec.{eqb}
 use Rattle.vector.specs.declared.vec3.Vec3.{Vec3}
 use Rattle.vector.specs.Vector.{zeroV}
 use Rattle.shape.specs.declared.support.Shape.the-variants.{Ball, Cuboid, Capsule, Triangle}
-use Rattle.lines.specs.declared.line.Counts as Told
+use Rattle.lines.specs.declared.line.Counts as Lines
 use Rattle.lines.specs.declared.line.Outcome.{Outcome}
 use Rattle.lines.specs.declared.line.Outcome.the-variants.{ClosestPoints, Proximity, NoIntersection, Penetration, NoAnswer, Panic, NoPlace}
 use Rattle.lines.specs.Lines.{letterOf}
 use Rattle.vote.specs.declared.Answer.{Answer}
 use Rattle.vote.specs.declared.Counts.{Counts}
 use Rattle.vote.specs.declared.Verdict.{Verdict}
-use Rattle.vote.specs.declared.Verdict.the-variants.{Agreed, Refused}
-use Rattle.vote.specs.Vote.{verdictNumber, verdictAnswer}
+use Rattle.vote.specs.Vote.{verdictNumber, verdictValues}
 use Rattle.answers.specs.declared.ShapeRecord.{ShapeRecord}
 use Rattle.answers.specs.declared.MaybeShape.{MaybeShape}
 use Rattle.answers.specs.declared.MaybeShape.the-variants.{Some, None}
@@ -33,7 +32,7 @@ shapeOf g =
 abbrev pub answerWith : ℕ → Vec3 → Vec3 → Vec3 → Counts → Answer
 answerWith outcome p1 p2 n c = record { outcome = outcome; point1 = p1; point2 = p2; normal = n; counts = c }
 
-abbrev pub countsOf : Told.Counts → Counts
+abbrev pub countsOf : Lines.Counts → Counts
 countsOf c = record { expansions = c .expansions; made = c .made; live = c .live; edges = c .edges; missed = c .missed }
 
 abbrev pub noCounts : Counts
@@ -66,10 +65,6 @@ numberOf letter =
     (cond (eqb letter 82) 3
     (cond (eqb letter 66) 4 5))))
 
--- the odd channel's number, 0 where there is none or no two agree
-abbrev pub oddOf : Verdict → ℕ
-oddOf (Agreed x odd) = odd
-oddOf Refused = 0
-
+-- a verdict's number, and its values
 unfoldable pub votedOf : Verdict → Voted
-votedOf x = record { number = verdictNumber x; odd = oddOf x; answer = verdictAnswer x }
+votedOf x = record { number = verdictNumber x; odd = verdictValues x .odd; answer = verdictValues x .answer }

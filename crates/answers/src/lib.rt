@@ -112,7 +112,7 @@ pub fn malformed_answer() -> Answer
     answer_with(b'B', Vec3::ZERO, Vec3::ZERO, Vec3::ZERO, no_counts())
 }
 
-// The verdict of a vote; where no two agree, with zeros, and 0 is no letter.
+// The verdict of a vote as a record. Where no two agree its answer is zeros, whose outcome, 0, is no letter.
 pub fn voted_of(verdict: Verdict) -> Voted
     ensures { λ r. ⌜ r ≡ votedOf verdict ⌝ }
 {

@@ -23,7 +23,7 @@ numberText n end = decimalOf n ++ end ∷ []
 unfoldable pub lettersText : Letters → List ℕ
 lettersText l = numberText (l .d) 32 ++ numberText (l .m) 32 ++ numberText (l .s) 32 ++ numberText (l .p) 32 ++ numberText (l .n) 32 ++ numberText (l .x) 32 ++ numberText (l .r) 10
 
--- four lines: with the sum of expansions, the number of records that carry counts, and the greatest faces made with the first record that had it
+-- four lines: records per letter, the sum of expansions, the number of records that carry counts, and the greatest faces made with the first record that had it
 unfoldable pub figuresText : Figures → List ℕ
 figuresText g = lettersText (g .letters) ++ numberText (g .expansions) 10 ++ numberText (g .counted) 10 ++ numberText (g .greatest) 32 ++ numberText (g .first) 10
 

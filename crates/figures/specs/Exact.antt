@@ -77,7 +77,7 @@ abbrev pub AtMost : ℕ → List Outcome → Type 0
 AtMost most [] = Unit {0}
 AtMost most (o ∷ l) = (carries o ≡ 1 → madeOf o ≤ most) × AtMost most l
 
--- the greatest faces made, by the record o that had it first: those before it made fewer, those after it at most as many
+-- the greatest faces made, by the record `had`, the first that had it: those before it made fewer, those after it at most as many
 pub record First (l : List Outcome) (greatest first : ℕ) : Type 0 where
   pub before : List Outcome
   pub had : Outcome

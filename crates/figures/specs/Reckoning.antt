@@ -16,7 +16,7 @@ use Rattle.stream.specs.Stream.{caseOutcome}
 use Rattle.figures.specs.declared.sums.Figures.{Figures}
 use Rattle.figures.specs.declared.turn.Reckoned.{Reckoned}
 use Rattle.figures.specs.declared.turn.Reckoned.the-variants.{Counted, End, Malformed, TooMany}
-use Rattle.figures.specs.Figures.{afterOutcome}
+use Rattle.figures.specs.Figures.{noFigures, afterOutcome}
 
 -- a record's outcome, counted; or of refusal 4 the offset of a malformed number, or of the window's end where it ends inside the record
 abbrev pub reckonBy : Format → CaseAnswer → List ℕ → ℕ → ℕ → Figures → Lists → Final Reckoned
@@ -30,9 +30,21 @@ unfoldable pub reckonOf : Format → List ℕ → ℕ → ℕ → ℕ → Figure
 reckonOf f s at base number g l =
     cond (leb (length s) at) (final End l) (cond (ltb mostRecords number) (final TooMany l) (reckonBy f (readCase f s at) s base number g l))
 
--- document 02's number of each: 0 for a record counted and for the file's end, 4 and 8 for the refusals
+-- ---- document 02's number of a turn, 0 for a record counted and for the file's end, 4 and 8 for the refusals; and its values: of a record counted the place after it and the
+-- figures with it, of refusal 4 the offset, otherwise zeros and the figures of no record. The figures before a turn stay the caller's
 abbrev pub reckonedNumber : Reckoned → ℕ
 reckonedNumber (Counted next g) = 0
 reckonedNumber End = 0
 reckonedNumber (Malformed b) = 4
 reckonedNumber TooMany = 8
+
+pub record Values : Type 0 where
+  pub next : ℕ
+  pub figures : Figures
+  pub offset : ℕ
+
+unfoldable pub reckonedValues : Reckoned → Values
+reckonedValues (Counted next g) = record { next = next; figures = g; offset = 0 }
+reckonedValues End = record { next = 0; figures = noFigures; offset = 0 }
+reckonedValues (Malformed b) = record { next = 0; figures = noFigures; offset = b }
+reckonedValues TooMany = record { next = 0; figures = noFigures; offset = 0 }

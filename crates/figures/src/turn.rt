@@ -1,7 +1,9 @@
 // One turn of a program that counts the records of a case file, which it reads through a window.
 ghost use lib.Ieee.{binary32};
 ghost use Rattle.epa.specs.Final.{allLent, Ends};
-ghost use Rattle.figures.specs.Reckoning.{reckonOf};
+ghost use Rattle.epa_polytope.specs.Contracts.{called};
+ghost use Rattle.number.specs.Told.{Told};
+ghost use Rattle.figures.specs.Reckoning.{reckonOf, reckonedNumber, reckonedValues};
 use crate::sums;
 use crate::sums::Figures;
 use casefile::CaseAnswer;
@@ -18,8 +20,8 @@ pub enum Reckoned {
     TooMany,
 }
 
-// The record at the place `at` of the bytes, whose first has the offset `base` in the file, is read, answered and counted. The
-// bytes are the file's rest, or at least 160 from `at` on: then the turn is the whole file's (law `window-reckoned`).
+// The record at the place `at` of the bytes, whose first has the offset `base` in the file, is read, answered and counted.
+// Where the bytes are the file's rest, or at least 160 from `at` on, the turn is the whole file's (law `window-reckoned`).
 pub fn figures_next(
     bytes: &[u8],
     at: usize,
@@ -35,8 +37,10 @@ pub fn figures_next(
     heap_keys: &mut [f32],
     pending: &mut [usize],
 ) -> Reckoned
-    ensures { λ r. ⌜ Ends (reckonOf binary32 (now (bytes .entry)) at base number figures) r
+    ensures answer { λ r. ⌜ Ends (reckonOf binary32 (now (bytes .entry)) at base number figures) r
         (λ m. allLent m vertices ids floats deleted edges «heap_ids» «heap_keys» pending) ⌝ }
+    ensures told { λ r. ⌜ Told reckonedNumber reckonedValues r
+        (reckonOf binary32 (now (bytes .entry)) at base number figures (allLent called vertices ids floats deleted edges «heap_ids» «heap_keys» pending) .answer) ⌝ }
 {
     if bytes.len() <= at {
         return Reckoned::End;

@@ -38,7 +38,7 @@ voteOf f a b c =
     (cond (agree f a c) (Agreed a 2)
     (cond (agree f b c) (Agreed b 1) Refused))
 
--- ---- document 01's number and values of each case: 0 for an answer, and refusal 5 with zeros
+-- ---- document 01's number and values of each case: 0 for an answer, with the odd channel's number, and refusal 5 with zeros
 
 abbrev pub verdictNumber : Verdict → ℕ
 verdictNumber (Agreed x odd) = 0
@@ -54,6 +54,11 @@ noAnswer =
       counts = record { expansions = 0; made = 0; live = 0; edges = 0; missed = 0 };
     }
 
-unfoldable pub verdictAnswer : Verdict → Answer
-verdictAnswer (Agreed x odd) = x
-verdictAnswer Refused = noAnswer
+-- the answer, and the odd channel's number; zeros where no two agree
+pub record Values : Type 0 where
+  pub answer : Answer
+  pub odd : ℕ
+
+unfoldable pub verdictValues : Verdict → Values
+verdictValues (Agreed x odd) = record { answer = x; odd = odd }
+verdictValues Refused = record { answer = noAnswer; odd = 0 }

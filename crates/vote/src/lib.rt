@@ -1,14 +1,14 @@
-// The vote of three channels: two answers out of three that agree. What each function returns is the definition
-// of the same name in specs/Vote.antt, which carries the scope document's rule.
+// The vote of three channels: two answers out of three that agree. What each function returns is a definition
+// of specs/Vote.antt, which carries document 01's rule as tickets 3 and 4 have it.
 ghost use mathlib.Core.Path.{_≡_};
 ghost use lib.Ieee.{binary32};
 ghost use Rattle.number.specs.Told.{Told};
-ghost use Rattle.vote.specs.Vote.{agree, sameBits, sameBitsV, sameCounts, voteOf, verdictNumber, verdictAnswer};
+ghost use Rattle.vote.specs.Vote.{agree, sameBits, sameBitsV, sameCounts, voteOf, verdictNumber, verdictValues};
 use vector::Vec3;
 
 // The counts of a run: expansions completed, faces made, faces live at the end, most edges in one pass, lookups that missed.
-// A type of its own, laid out for C: the voter depends on no channel and no printer, and a channel on no voter. The embedding,
-// which depends on both, turns the counts of `lines` into these.
+// A type of its own, laid out for C: the voter depends on no channel and no printer, and a channel on no voter. The crate
+// `answers`, which depends on both, turns the counts of `lines` into these.
 #[repr(C)]
 pub struct Counts {
     pub expansions: usize,
@@ -69,7 +69,7 @@ pub fn agree(a: Answer, b: Answer) -> bool
 // The answers of channels 1, 2 and 3: the first of 1 and 2, 1 and 3, 2 and 3 that agree decides.
 pub fn vote(a: Answer, b: Answer, c: Answer) -> Verdict
     ensures answer { λ r. ⌜ r ≡ voteOf binary32 a b c ⌝ }
-    ensures told { λ r. ⌜ Told verdictNumber verdictAnswer r (voteOf binary32 a b c) ⌝ }
+    ensures told { λ r. ⌜ Told verdictNumber verdictValues r (voteOf binary32 a b c) ⌝ }
 {
     let first_last = agree(a, c);
     if agree(a, b) {
