@@ -15,14 +15,14 @@ use Rattle.number.specs.Constants.{epsTol}
 use Rattle.number.specs.Root.{root}
 use Rattle.vector.specs.declared.vec3.Vec3.{Vec3}
 use Rattle.vector.specs.declared.vec3.MaybeVec3.{MaybeVec3}
-use Rattle.vector.specs.declared.vec3.MaybeVec3.the-variants as Direction
-use Rattle.vector.specs.Vector.{zeroF, negV, dotV, tryNormalizeV, normalizeAndLengthV, _⊖_, _⊗_}
+use Rattle.vector.specs.declared.vec3.MaybeVec3.the-variants as MaybeVec3
+use Rattle.vector.specs.Vector.{zeroF, negV, dotV, lengthV, tryNormalizeV, normalizeAndLengthV, _⊖_, _⊗_}
 use Rattle.shape.specs.declared.vertex.Vertex.{Vertex}
 use Rattle.simplex.specs.declared.voronoi_simplex.VoronoiSimplex.{VoronoiSimplex}
 use Rattle.simplex.specs.declared.operations.Answer.{Answer}
-use Rattle.simplex.specs.declared.operations.Answer.the-variants as Added
+use Rattle.simplex.specs.declared.operations.Answer.the-variants as Answer
 use Rattle.reduction.specs.declared.location.Projected.{Projected}
-use Rattle.reduction.specs.declared.location.Projected.the-variants as Projection
+use Rattle.reduction.specs.declared.location.Projected.the-variants as Projected
 use Rattle.simplex.specs.Operations.{addPoint}
 use Rattle.reduction.specs.Reduction.{projectOriginAndReduce}
 use Rattle.gjk.specs.declared.rounds.GJKResult.{GJKResult}
@@ -30,8 +30,10 @@ use Rattle.gjk.specs.declared.rounds.GJKResult.the-variants.{Intersectio
 use Rattle.gjk.specs.declared.rounds.Round.{Round}
 use Rattle.gjk.specs.declared.rounds.Next.{Next}
 use Rattle.gjk.specs.declared.rounds.Next.the-variants.{Onward, Ended}
+use Rattle.gjk.specs.declared.rounds.Turn.{Turn}
 use Rattle.gjk.specs.Perturbed.{perturbedDir}
-use Rattle.gjk.specs.Gjk.{Search, onwardWith, endedWith, touching, stalled, roundAfter, reducedTo, advanced, addedBy, extended, bounded, bettered, probed, perturbedRound, stagnated, boundedBy, turnOf, after, runOf, startIn, startAt, startOf, firstRound, finishedBy, closestWithin, closestPoints}
+use Rattle.gjk.specs.Gjk.{Search, onwardWith, endedWith, goesOn, over, _▷_, after, boundedBy, perturbedRound, bettered, roundAfter, touching, firstRound, startIn, startAt, startOf}
+use Rattle.gjk.specs.Gjk.{directed, stagnated, asserted, bounded, stalled, addedBy, added, reducedTo, reduced, probed, turnOf, runOf, finishedBy, closestWithin, closestPoints}
 
 -- ---- a turn that ends doesn't go on
 no-end : {A : Type 0} (x : GJKResult) (r : Round) → Ended x ≡ Onward r → A
@@ -75,14 +77,14 @@ unfolding startOf firstRound
 first-round f s r h = let t = projectOriginAndReduce f s in go (t .simplex) (t .projection) h
   where
     within : (s : VoronoiSimplex) (proj : Vec3) (d : MaybeVec3) → startIn f s proj d .next ≡ Onward r → (r .niter ≡ 0) × (r .«nb_perturbs» ≡ 0)
-    within s proj (Direction.Some d) h =
+    within s proj (MaybeVec3.Some d) h =
         let same : firstRound f proj d ≡ r = cc in
         (sym (ap (λ (q : Round). q .niter) same), sym (ap (λ (q : Round). q .«nb_perturbs») same))
-    within s proj Direction.None h = no-end Intersection r h
+    within s proj MaybeVec3.None h = no-end Intersection r h
 
     go : (s : VoronoiSimplex) (p : Projected) → startAt f s p .next ≡ Onward r → (r .niter ≡ 0) × (r .«nb_perturbs» ≡ 0)
-    go s (Projection.At proj location) h = within s proj (tryNormalizeV f proj) h
-    go s Projection.Refused h = no-end Refused r h
+    go s (Projected.At proj location) h = within s proj (tryNormalizeV f proj) h
+    go s Projected.Refused h = no-end Refused r h
 
 pub few-first : (f : Format) (s : VoronoiSimplex) (r : Round) → startOf f s .next ≡ Onward r → r .niter < 100
 few-first f s r h = omega (arith, first-round f s r h .0)
@@ -100,8 +102,8 @@ module _ (f : Format) (k : Search) where
 
   reduced-step : (s : VoronoiSimplex) (p : Projected) (r q : Round) (dir : Vec3) (m : Float) → reducedTo f k s p r dir m .next ≡ Onward q → Step r q
   unfolding roundAfter
-  reduced-step s Projection.Refused r q dir m h = no-end _ q h
-  reduced-step s (Projection.At proj location) r q dir m h = go (eqb (s .dim) 3) (le (epsTol f) m) (eqb (r .niter + 1) 100) _ _ _ refl h
+  reduced-step s Projected.Refused r q dir m h = no-end _ q h
+  reduced-step s (Projected.At proj location) r q dir m h = go (eqb (s .dim) 3) (le (epsTol f) m) (eqb (r .niter + 1) 100) _ _ _ refl h
     where
       go : (d b l : Bool) (x y z : GJKResult) → eqb (r .niter + 1) 100 ≡ l → cond d (cond b (endedWith s x) (endedWith s y)) (cond l (endedWith s z) (onwardWith s (roundAfter r proj dir))) .next ≡ Onward q → Step r q
       go true true l x y z e h = no-end x q h
@@ -111,42 +113,46 @@ module _ (f : Format) (k : Search) where
           let same : roundAfter r proj dir ≡ q = cc in
           went (eqb-false (r .niter + 1) 100 e) (sym (ap (λ (t : Round). t .niter) same)) (sym (ap (λ (t : Round). t .«nb_perturbs») same))
 
-  added-step : (s : VoronoiSimplex) (a : Answer) (r q : Round) (dir : Vec3) (m : Float) → addedBy f k s a r dir m .next ≡ Onward q → Step r q
-  unfolding advanced
-  added-step s Added.Yes r q dir m h = let t = projectOriginAndReduce f s in reduced-step (t .simplex) (t .projection) r q dir m h
-  added-step s Added.No r q dir m h = stalled-step s r q dir h
-  added-step s Added.Refused r q dir m h = no-end _ q h
+  -- from the new vertex on
+  grown : Float → Vertex → VoronoiSimplex → Round → Vec3 → Turn
+  grown m v s r dir = added f k s r dir v ▷ λ s₁ r₁ dir₁. reduced f k s₁ r₁ dir₁ m
 
-  bounded-step : (s : VoronoiSimplex) (r q : Round) (dir : Vec3) (m : Float) (v : Vertex) → bounded f k s r dir m v .next ≡ Onward q → Step r q
-  unfolding bounded extended
+  added-step : (s : VoronoiSimplex) (a : Answer) (r q : Round) (dir : Vec3) (m : Float) → (addedBy f k s a r dir ▷ λ s₁ r₁ dir₁. reduced f k s₁ r₁ dir₁ m) .next ≡ Onward q → Step r q
+  unfolding reduced
+  added-step s Answer.Yes r q dir m h = let t = projectOriginAndReduce f s in reduced-step (t .simplex) (t .projection) r q dir m h
+  added-step s Answer.No r q dir m h = stalled-step s r q dir h
+  added-step s Answer.Refused r q dir m h = no-end _ q h
+
+  bounded-step : (s : VoronoiSimplex) (r q : Round) (dir : Vec3) (m : Float) (v : Vertex) → (bounded f k s r dir m ▷ grown m v) .next ≡ Onward q → Step r q
+  unfolding bounded grown added
   bounded-step s r q dir m v h =
       go (lt (k .maxDist) m) (not (k .exact) && lt zeroF m && le (r .«max_bound») (k .maxDist))
       (le (_⊖_ f (r .«max_bound») m) (_⊗_ f (k .epsRel) (r .«max_bound»))) _ _ _ h
     where
-      go : (a b c : Bool) (x y z : GJKResult) → cond a (endedWith s x) (cond b (endedWith s y) (cond c (endedWith s z) (extended f k s r dir m v))) .next ≡ Onward q → Step r q
+      go : (a b c : Bool) (x y z : GJKResult) → (cond a (over (endedWith s x)) (cond b (over (endedWith s y)) (cond c (over (endedWith s z)) (goesOn s r dir))) ▷ grown m v) .next ≡ Onward q → Step r q
       go true b c x y z h = no-end x q h
       go false true c x y z h = no-end y q h
       go false false true x y z h = no-end z q h
       go false false false x y z h = let t = addPoint f s v in added-step (t .simplex) (t .answer) r q dir m h
 
   -- what a probe goes on from: the round with the bounds of the new vertex
-  probed-step : (s : VoronoiSimplex) (r q : Round) (dir : Vec3) → probed f k s r dir .next ≡ Onward q → (m : Float) × (v : Vertex) × Step (bettered f r m v) q
-  unfolding probed
+  probed-step : (s : VoronoiSimplex) (r q : Round) (dir : Vec3) → probed f k s r dir .next ≡ Onward q → (m l : Float) × Step (bettered r m l) q
+  unfolding probed asserted grown
   probed-step s r q dir h =
       let v = k .supp dir in
       let m = Ieee.neg (dotV f dir (v .point)) in
-      (m, v, go (finite m) m v h)
+      (m, lengthV f (v .point), go (finite m) m v h)
     where
-      go : (b : Bool) (m : Float) (v : Vertex) → cond b (bounded f k s (bettered f r m v) dir m v) (endedWith s Refused) .next ≡ Onward q → Step (bettered f r m v) q
-      go true m v h = bounded-step s (bettered f r m v) q dir m v h
+      go : (b : Bool) (m : Float) (v : Vertex) → (cond b (goesOn s r dir) (over (endedWith s Refused)) ▷ λ s₁ r₁ dir₁. bounded f k s₁ (bettered r₁ m (lengthV f (v .point))) dir₁ m ▷ grown m v) .next ≡ Onward q → Step (bettered r m (lengthV f (v .point))) q
+      go true m v h = bounded-step s (bettered r m (lengthV f (v .point))) q dir m v h
       go false m v h = no-end Refused q h
 
   -- a turn whose bound doesn't fall takes a perturbation
-  stagnated-step : (s : VoronoiSimplex) (r q : Round) (dir : Vec3) → stagnated f k s r dir .next ≡ Onward q → (r .«nb_perturbs» < 6) × ((m : Float) × (v : Vertex) × Step (bettered f (perturbedRound r) m v) q)
+  stagnated-step : (s : VoronoiSimplex) (r q : Round) (dir : Vec3) → (stagnated f k s r dir ▷ probed f k) .next ≡ Onward q → (r .«nb_perturbs» < 6) × ((m l : Float) × Step (bettered (perturbedRound r) m l) q)
   unfolding stagnated
   stagnated-step s r q dir h = go (lt zeroF (r .«best_min_bound»)) (touching f k r) (ltb (r .«nb_perturbs») 6) _ _ _ refl h
     where
-      go : (b t p : Bool) (x y z : GJKResult) → ltb (r .«nb_perturbs») 6 ≡ p → cond b (endedWith s x) (cond t (endedWith s y) (cond p (probed f k s (perturbedRound r) (perturbedDir f dir (r .«nb_perturbs» + 1))) (endedWith s z))) .next ≡ Onward q → (r .«nb_perturbs» < 6) × ((m : Float) × (v : Vertex) × Step (bettered f (perturbedRound r) m v) q)
+      go : (b t p : Bool) (x y z : GJKResult) → ltb (r .«nb_perturbs») 6 ≡ p → (cond b (over (endedWith s x)) (cond t (over (endedWith s y)) (cond p (goesOn s (perturbedRound r) (perturbedDir f dir (r .«nb_perturbs» + 1))) (over (endedWith s z)))) ▷ probed f k) .next ≡ Onward q → (r .«nb_perturbs» < 6) × ((m l : Float) × Step (bettered (perturbedRound r) m l) q)
       go true t p x y z e h = no-end x q h
       go false true p x y z e h = no-end y q h
       go false false true x y z e h = (ltb-true (r .«nb_perturbs») 6 e, probed-step s (perturbedRound r) q (perturbedDir f dir (r .«nb_perturbs» + 1)) h)
@@ -177,36 +183,42 @@ module _ (f : Format) (k : Search) where
   unfolding stuck dist one
   stands r q l b p = ap one (ap (λ (v : Vec3). le (q .«max_bound») (normalizeAndLengthV f (negV v) .length)) p ∙ ap (λ (m : Float). le m (dist r)) b ∙ self (dist r) (epsTol f) l)
 
-  stuck-less : (r q : Round) → r .niter < 100 → (m : Float) (v : Vertex) → lt (epsTol f) (dist r) ≡ true → r .«nb_perturbs» < 6 → Step (bettered f (perturbedRound (boundedBy r (dist r))) m v) q → left q < 99 - r .niter + (6 - r .«nb_perturbs»)
+  stuck-less : (r q : Round) → r .niter < 100 → (m n : Float) → lt (epsTol f) (dist r) ≡ true → r .«nb_perturbs» < 6 → Step (bettered (perturbedRound (boundedBy r (dist r))) m n) q → left q < 99 - r .niter + (6 - r .«nb_perturbs»)
   unfolding left bettered perturbedRound boundedBy
-  stuck-less r q w m v l p (stood e _) = rw e (omega (arith, stands r (bettered f (perturbedRound (boundedBy r (dist r))) m v) l refl refl))
-  stuck-less r q w m v l p (went n i b) =
+  stuck-less r q w m n l p (stood e _) = rw e (omega (arith, stands r (bettered (perturbedRound (boundedBy r (dist r))) m n) l refl refl))
+  stuck-less r q w m n l p (went t i b) =
       let round : q .niter ≡ r .niter + 1 = i in
       let perturbed : q .«nb_perturbs» ≡ r .«nb_perturbs» + 1 = b in
-      let early : r .niter < 99 = not-last (r .niter) w n in
+      let early : r .niter < 99 = not-last (r .niter) w t in
       omega (arith, one-most (stuck q))
 
-  free-less : (r q : Round) → r .niter < 100 → (m : Float) (v : Vertex) → lt (epsTol f) (dist r) ≡ true → Step (bettered f (boundedBy r (dist r)) m v) q → left q < 99 - r .niter + (6 - r .«nb_perturbs») + 1
+  free-less : (r q : Round) → r .niter < 100 → (m n : Float) → lt (epsTol f) (dist r) ≡ true → Step (bettered (boundedBy r (dist r)) m n) q → left q < 99 - r .niter + (6 - r .«nb_perturbs») + 1
   unfolding left bettered boundedBy
-  free-less r q w m v l (stood e _) = rw e (omega (arith, stands r (bettered f (boundedBy r (dist r)) m v) l refl refl))
-  free-less r q w m v l (went n i b) =
+  free-less r q w m n l (stood e _) = rw e (omega (arith, stands r (bettered (boundedBy r (dist r)) m n) l refl refl))
+  free-less r q w m n l (went t i b) =
       let round : q .niter ≡ r .niter + 1 = i in
       let perturbed : q .«nb_perturbs» ≡ r .«nb_perturbs» = b in
-      let early : r .niter < 99 = not-last (r .niter) w n in
+      let early : r .niter < 99 = not-last (r .niter) w t in
       omega (arith, one-most (stuck q))
 
   -- at each turn that goes on, less is left, and `niter` stays below 100
   falls : (s : VoronoiSimplex) (r q : Round) → r .niter < 100 → turnOf f k s r .next ≡ Onward q → (left q < left r) × (q .niter < 100)
-  unfolding turnOf bettered perturbedRound boundedBy left stuck dist one
-  falls s r q w h = go (lt (epsTol f) (dist r)) (stuck r) refl refl h
+  unfolding turnOf directed bettered perturbedRound boundedBy left stuck dist one
+  falls s r q w h = go (lt (epsTol f) (dist r)) refl h
     where
       dir : Vec3
       dir = normalizeAndLengthV f (negV (r .proj)) .normalized
 
-      go : (t u : Bool) → lt (epsTol f) (dist r) ≡ t → stuck r ≡ u → cond t (cond u (stagnated f k s (boundedBy r (dist r)) dir) (probed f k s (boundedBy r (dist r)) dir)) (endedWith s Intersection) .next ≡ Onward q → (left q < 99 - r .niter + (6 - r .«nb_perturbs») + one u) × (q .niter < 100)
-      go true true l u h = let p = stagnated-step s (boundedBy r (dist r)) q dir h in (omega (arith, stuck-less r q w (p .1 .0) (p .1 .1) l (p .0) (p .1 .2)), few-still _ q w (p .1 .2))
-      go true false l u h = let p = probed-step s (boundedBy r (dist r)) q dir h in (free-less r q w (p .0) (p .1) l (p .2), few-still _ q w (p .2))
-      go false u l v h = no-end Intersection q h
+      next : Round
+      next = boundedBy r (dist r)
+
+      on : (u : Bool) → lt (epsTol f) (dist r) ≡ true → (cond u (stagnated f k s next dir) (goesOn s next dir) ▷ probed f k) .next ≡ Onward q → (left q < 99 - r .niter + (6 - r .«nb_perturbs») + one u) × (q .niter < 100)
+      on true l h = let p = stagnated-step s next q dir h in (omega (arith, stuck-less r q w (p .1 .0) (p .1 .1) l (p .0) (p .1 .2)), few-still _ q w (p .1 .2))
+      on false l h = let p = probed-step s next q dir h in (free-less r q w (p .0) (p .1) l (p .2), few-still _ q w (p .2))
+
+      go : (t : Bool) → lt (epsTol f) (dist r) ≡ t → (cond t (goesOn s next dir) (over (endedWith s Intersection)) ▷ λ s₁ r₁ dir₁. cond (le (r .«max_bound») (r₁ .«max_bound»)) (stagnated f k s₁ r₁ dir₁) (goesOn s₁ r₁ dir₁) ▷ probed f k) .next ≡ Onward q → (left q < left r) × (q .niter < 100)
+      go true l h = on (stuck r) l h
+      go false l h = no-end Intersection q h
 
   -- so a run with more turns than are left has turns to spare
   spare : (n m : ℕ) (s : VoronoiSimplex) (r : Round) → r .niter < 100 → left r < n → n ≤ m → runOf f k m s r ≡ runOf f k n s r

@@ -11,13 +11,13 @@ use Rattle.vector.specs.declared.vec3.MaybeVec3.{MaybeVec3}
 use Rattle.vector.specs.declared.vec3.MaybeVec3.the-variants.{Some, None}
 use Rattle.vector.specs.Vector.{oneF, componentV, withComponentV, tryNormalizeV, _⊕_, _⊗_}
 
--- `(seed - 1) % DIM`, of the turn seed - 1
+-- `(seed - 1) % DIM`, where n is `seed - 1`
 unfoldable pub axisOf : ℕ → Axis
-axisOf turn = cond (eqb (turn % 3) 0) X (cond (eqb (turn % 3) 1) Y Z)
+axisOf n = cond (eqb (n % 3) 0) X (cond (eqb (n % 3) 1) Y Z)
 
--- `if ((seed - 1) / DIM).is_multiple_of(2) { 1.0 } else { -1.0 }`
+-- `if ((seed - 1) / DIM).is_multiple_of(2) { 1.0 } else { -1.0 }`, where n is `seed - 1`
 unfoldable pub signOf : ℕ → Float
-signOf turn = cond (eqb (turn / 3 % 2) 0) oneF (Ieee.neg oneF)
+signOf n = cond (eqb (n / 3 % 2) 0) oneF (Ieee.neg oneF)
 
 -- `unwrap_or`
 unfoldable pub unwrapOr : MaybeVec3 → Vec3 → Vec3
@@ -32,7 +32,7 @@ module _ (f : Format) where
 
   unfoldable pub perturbedDir : Vec3 → ℕ → Vec3
   perturbedDir dir seed =
-      let turn = seed - 1 in
-      let axis = axisOf turn in
-      let res = withComponentV dir axis (_⊕_ f (componentV dir axis) (_⊗_ f (signOf turn) offsetF)) in
+      let n = seed - 1 in
+      let axis = axisOf n in
+      let res = withComponentV dir axis (_⊕_ f (componentV dir axis) (_⊗_ f (signOf n) offsetF)) in
       unwrapOr (tryNormalizeV f res) dir

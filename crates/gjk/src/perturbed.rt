@@ -8,31 +8,31 @@ use vector::Axis;
 use vector::MaybeVec3;
 use vector::Vec3;
 
-// The axis that a turn moves: x, y, z, and again.
-fn axis_of(turn: usize) -> Axis
-    ensures { λ r. ⌜ r ≡ axisOf turn ⌝ }
+// The axis that is moved, where `n` is `seed - 1`: x, y, z, and again.
+fn axis_of(n: usize) -> Axis
+    ensures { λ r. ⌜ r ≡ axisOf n ⌝ }
 {
-    let axis = turn % 3;
+    let axis = n % 3;
     if axis == 0 {
         return Axis::X;
     }
     if axis == 1 { Axis::Y } else { Axis::Z }
 }
 
-// Three turns forward, three back.
-fn sign_of(turn: usize) -> f32
-    ensures { λ r. ⌜ r ≡ signOf turn ⌝ }
+// Three perturbations forward, three back, where `n` is `seed - 1`.
+fn sign_of(n: usize) -> f32
+    ensures { λ r. ⌜ r ≡ signOf n ⌝ }
 {
-    if turn / 3 % 2 == 0 { 1.0 } else { -1.0 }
+    if n / 3 % 2 == 0 { 1.0 } else { -1.0 }
 }
 
 pub(crate) fn perturbed_dir(dir: Vec3, seed: usize) -> Vec3
     requires { ⌜ 0 < seed ⌝ }
     ensures { λ r. ⌜ r ≡ perturbedDir binary32 dir seed ⌝ }
 {
-    let turn = seed - 1;
-    let axis = axis_of(turn);
-    let offset = sign_of(turn) * 1.0e-2;
+    let n = seed - 1;
+    let axis = axis_of(n);
+    let offset = sign_of(n) * 1.0e-2;
     let res = dir.with_component(axis, dir.component(axis) + offset);
     match res.try_normalize() {
         MaybeVec3::Some(v) => v,

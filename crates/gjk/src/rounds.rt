@@ -4,10 +4,10 @@ ghost use Prim.Native.Nat.{_<_};
 ghost use mathlib.Core.Path.{_≡_};
 ghost use lib.Ieee.{binary32};
 ghost use Rattle.number.specs.Told.{Told};
-ghost use Rattle.gjk.specs.Gjk.{searchOf, closestBy, apartBy, touching, stalled, advanced, extended, bounded, probed, stagnated};
 ghost use Rattle.shape.specs.Support.{fromShapes};
-ghost use Rattle.gjk.specs.Gjk.{onwardWith, endedWith};
-ghost use Rattle.gjk.specs.Gjk.{turnOf, runOf, startOf, finishedBy, closestPoints, gjkNumber, gjkValues};
+ghost use Rattle.gjk.specs.Gjk.{searchOf, onwardWith, endedWith, _▷_, closestBy, apartBy, touching, startOf};
+ghost use Rattle.gjk.specs.Gjk.{stagnated, bounded, stalled, added, reduced, probed, turnOf};
+ghost use Rattle.gjk.specs.Gjk.{runOf, finishedBy, closestPoints, gjkNumber, gjkValues};
 use crate::perturbed::perturbed_dir;
 use reduction::Projected;
 use shape::Shape;
@@ -20,6 +20,9 @@ use vector::Pose;
 use vector::Vec3;
 use witnesses::Witnesses;
 use witnesses::result;
+
+// As in the Rust: 2 * DIM.
+const MAX_PERTURBATIONS: usize = 6;
 
 // The Rust's four results, and the refusal.
 pub enum GJKResult {
@@ -111,26 +114,9 @@ fn is_touching(q: Query, r: Round) -> bool
     q.exact_dist & (r.best_min_bound >= -q.eps_rel * r.support_scale)
 }
 
-// The new vertex adds nothing: decided by the best bound, or back to the top for a perturbation.
-fn stalled_turn(q: Query, simplex: VoronoiSimplex, r: Round, dir: Vec3) -> Turn
-    ensures { λ t. ⌜ t ≡ stalled binary32 (searchOf binary32 q) simplex r dir ⌝ }
-{
-    if r.best_min_bound > 0.0 {
-        return ended(simplex, apart_by(q.exact_dist, simplex, false, dir));
-    }
-    if is_touching(q, r) {
-        return ended(simplex, closest_by(simplex, false, dir));
-    }
-    if r.nb_perturbs < 6 {
-        return onward(simplex, r);
-    }
-    ended(simplex, GJKResult::Intersection)
-}
-
-// The vertex is in: the simplex is reduced, and the round is over.
-fn advanced_turn(q: Query, simplex: VoronoiSimplex, r: Round, dir: Vec3, min_bound: f32) -> Turn
-    requires { ⌜ r .niter < 100 ⌝ }
-    ensures { λ t. ⌜ t ≡ advanced binary32 (searchOf binary32 q) simplex r dir «min_bound» ⌝ }
+// What stands before the loop.
+fn start_of(simplex: VoronoiSimplex) -> Turn
+    ensures { λ t. ⌜ t ≡ startOf binary32 simplex ⌝ }
 {
     let found = reduction::project_origin(simplex);
     let Projected::At(proj, location) = found else {
@@ -138,66 +124,62 @@ fn advanced_turn(q: Query, simplex: VoronoiSimplex, r: Round, dir: Vec3, min_bou
     };
     let applied = reduction::apply_location(simplex, location);
     let smaller = applied.simplex;
-    if smaller.dim == 3 {
-        if min_bound >= number::eps_tol() {
-            return ended(smaller, apart_by(q.exact_dist, smaller, true, dir));
-        }
+    let unit = proj.try_normalize();
+    let MaybeVec3::Some(proj_dir) = unit else {
         return ended(smaller, GJKResult::Intersection);
-    }
-    let mut next = r;
-    next.proj = proj;
-    next.old_dir = dir;
-    next.niter = r.niter + 1;
-    if next.niter == 100 {
-        return ended(smaller, GJKResult::NoIntersection(Vec3::X));
-    }
-    onward(smaller, next)
+    };
+    let largest = number::largest();
+    let round = Round {
+        proj,
+        old_dir: proj_dir.neg(),
+        max_bound: largest,
+        best_min_bound: -largest,
+        support_scale: 0.0,
+        nb_perturbs: 0,
+        niter: 0,
+    };
+    onward(smaller, round)
 }
 
-fn extended_turn(
-    q: Query,
-    simplex: VoronoiSimplex,
-    r: Round,
-    dir: Vec3,
-    min_bound: f32,
-    cso_point: Vertex,
-) -> Turn
+// One turn of the Rust's loop. From here on the functions stand in the order of the loop's body: each ends the turn, or returns what the next makes of it.
+fn turn_of(q: Query, simplex: VoronoiSimplex, r: Round) -> Turn
     requires { ⌜ r .niter < 100 ⌝ }
-    ensures { λ t. ⌜ t ≡ extended binary32 (searchOf binary32 q) simplex r dir «min_bound» «cso_point» ⌝ }
+    ensures { λ t. ⌜ t ≡ turnOf binary32 (searchOf binary32 q) simplex r ⌝ }
 {
-    let added = simplex.add_point(cso_point);
-    let larger = added.simplex;
-    let answer = added.answer;
-    match answer {
-        Answer::Yes => advanced_turn(q, larger, r, dir, min_bound),
-        Answer::No => stalled_turn(q, larger, r, dir),
-        Answer::Refused => ended(larger, GJKResult::Refused),
+    let proj = r.proj;
+    let unit = proj.neg().normalize_and_length();
+    let dir = unit.normalized;
+    let dist = unit.length;
+    if dist > number::eps_tol() {
+        let mut next = r;
+        next.max_bound = dist;
+        if dist >= r.max_bound {
+            return stagnated_turn(q, simplex, next, dir);
+        }
+        return probed_turn(q, simplex, next, dir);
     }
+    ended(simplex, GJKResult::Intersection)
 }
 
-// What the bounds decide before the new vertex is added.
-fn bounded_turn(
-    q: Query,
-    simplex: VoronoiSimplex,
-    r: Round,
-    dir: Vec3,
-    min_bound: f32,
-    cso_point: Vertex,
-) -> Turn
+// The upper bound does not fall: decided by the best lower bound, or `dir` is perturbed.
+fn stagnated_turn(q: Query, simplex: VoronoiSimplex, r: Round, dir: Vec3) -> Turn
     requires { ⌜ r .niter < 100 ⌝ }
-    ensures { λ t. ⌜ t ≡ bounded binary32 (searchOf binary32 q) simplex r dir «min_bound» «cso_point» ⌝ }
+    ensures { λ t. ⌜ t ≡ (stagnated binary32 (searchOf binary32 q) simplex r dir ▷ probed binary32 (searchOf binary32 q)) ⌝ }
 {
-    if min_bound > q.max_dist {
-        return ended(simplex, GJKResult::NoIntersection(dir));
+    let old_dir = r.old_dir;
+    if r.best_min_bound > 0.0 {
+        return ended(simplex, apart_by(q.exact_dist, simplex, true, old_dir));
     }
-    if !q.exact_dist & (min_bound > 0.0) & (r.max_bound <= q.max_dist) {
-        let old_dir = r.old_dir;
-        return ended(simplex, GJKResult::Proximity(old_dir));
+    if is_touching(q, r) {
+        return ended(simplex, closest_by(simplex, true, old_dir));
     }
-    if r.max_bound - min_bound <= q.eps_rel * r.max_bound {
-        return ended(simplex, apart_by(q.exact_dist, simplex, false, dir));
+    if r.nb_perturbs < MAX_PERTURBATIONS {
+        let seed = r.nb_perturbs + 1;
+        let mut next = r;
+        next.nb_perturbs = seed;
+        return probed_turn(q, simplex, next, perturbed_dir(dir, seed));
     }
-    extended_turn(q, simplex, r, dir, min_bound, cso_point)
+    ended(simplex, GJKResult::Intersection)
 }
 
 // The support point of `dir`, and the bounds it gives. The Rust asserts that the lower one is finite.
@@ -220,45 +202,97 @@ fn probed_turn(q: Query, simplex: VoronoiSimplex, r: Round, dir: Vec3) -> Turn
     ended(simplex, GJKResult::Refused)
 }
 
-// The upper bound does not fall: decided by the best lower bound, or `dir` is perturbed.
-fn stagnated_turn(q: Query, simplex: VoronoiSimplex, r: Round, dir: Vec3) -> Turn
+// What the bounds decide before the new vertex is added.
+fn bounded_turn(
+    q: Query,
+    simplex: VoronoiSimplex,
+    r: Round,
+    dir: Vec3,
+    min_bound: f32,
+    cso_point: Vertex,
+) -> Turn
     requires { ⌜ r .niter < 100 ⌝ }
-    ensures { λ t. ⌜ t ≡ stagnated binary32 (searchOf binary32 q) simplex r dir ⌝ }
+    ensures { λ t. ⌜ t ≡ (bounded binary32 (searchOf binary32 q) simplex r dir «min_bound» ▷ λ s₁ r₁ dir₁.
+        added binary32 (searchOf binary32 q) s₁ r₁ dir₁ «cso_point» ▷ λ s₂ r₂ dir₂.
+        reduced binary32 (searchOf binary32 q) s₂ r₂ dir₂ «min_bound») ⌝ }
 {
-    let old_dir = r.old_dir;
+    if min_bound > q.max_dist {
+        return ended(simplex, GJKResult::NoIntersection(dir));
+    }
+    if !q.exact_dist & (min_bound > 0.0) & (r.max_bound <= q.max_dist) {
+        let old_dir = r.old_dir;
+        return ended(simplex, GJKResult::Proximity(old_dir));
+    }
+    if r.max_bound - min_bound <= q.eps_rel * r.max_bound {
+        return ended(simplex, apart_by(q.exact_dist, simplex, false, dir));
+    }
+    added_turn(q, simplex, r, dir, min_bound, cso_point)
+}
+
+// The new vertex is added, or it adds nothing.
+fn added_turn(
+    q: Query,
+    simplex: VoronoiSimplex,
+    r: Round,
+    dir: Vec3,
+    min_bound: f32,
+    cso_point: Vertex,
+) -> Turn
+    requires { ⌜ r .niter < 100 ⌝ }
+    ensures { λ t. ⌜ t ≡ (added binary32 (searchOf binary32 q) simplex r dir «cso_point» ▷ λ s₁ r₁ dir₁.
+        reduced binary32 (searchOf binary32 q) s₁ r₁ dir₁ «min_bound») ⌝ }
+{
+    let added = simplex.add_point(cso_point);
+    let larger = added.simplex;
+    let answer = added.answer;
+    match answer {
+        Answer::Yes => reduced_turn(q, larger, r, dir, min_bound),
+        Answer::No => stalled_turn(q, larger, r, dir),
+        Answer::Refused => ended(larger, GJKResult::Refused),
+    }
+}
+
+// The new vertex adds nothing: decided by the best bound, or back to the top for a perturbation.
+fn stalled_turn(q: Query, simplex: VoronoiSimplex, r: Round, dir: Vec3) -> Turn
+    ensures { λ t. ⌜ t ≡ stalled binary32 (searchOf binary32 q) simplex r dir ⌝ }
+{
     if r.best_min_bound > 0.0 {
-        return ended(simplex, apart_by(q.exact_dist, simplex, true, old_dir));
+        return ended(simplex, apart_by(q.exact_dist, simplex, false, dir));
     }
     if is_touching(q, r) {
-        return ended(simplex, closest_by(simplex, true, old_dir));
+        return ended(simplex, closest_by(simplex, false, dir));
     }
-    if r.nb_perturbs < 6 {
-        let seed = r.nb_perturbs + 1;
-        let mut next = r;
-        next.nb_perturbs = seed;
-        return probed_turn(q, simplex, next, perturbed_dir(dir, seed));
+    if r.nb_perturbs < MAX_PERTURBATIONS {
+        return onward(simplex, r);
     }
     ended(simplex, GJKResult::Intersection)
 }
 
-// One turn of the Rust's loop.
-fn turn_of(q: Query, simplex: VoronoiSimplex, r: Round) -> Turn
+// The vertex is in: the simplex is reduced, and the round is over.
+fn reduced_turn(q: Query, simplex: VoronoiSimplex, r: Round, dir: Vec3, min_bound: f32) -> Turn
     requires { ⌜ r .niter < 100 ⌝ }
-    ensures { λ t. ⌜ t ≡ turnOf binary32 (searchOf binary32 q) simplex r ⌝ }
+    ensures { λ t. ⌜ t ≡ reduced binary32 (searchOf binary32 q) simplex r dir «min_bound» ⌝ }
 {
-    let proj = r.proj;
-    let unit = proj.neg().normalize_and_length();
-    let dir = unit.normalized;
-    let dist = unit.length;
-    if dist > number::eps_tol() {
-        let mut next = r;
-        next.max_bound = dist;
-        if dist >= r.max_bound {
-            return stagnated_turn(q, simplex, next, dir);
+    let found = reduction::project_origin(simplex);
+    let Projected::At(proj, location) = found else {
+        return ended(simplex, GJKResult::Refused);
+    };
+    let applied = reduction::apply_location(simplex, location);
+    let smaller = applied.simplex;
+    if smaller.dim == 3 {
+        if min_bound >= number::eps_tol() {
+            return ended(smaller, apart_by(q.exact_dist, smaller, true, dir));
         }
-        return probed_turn(q, simplex, next, dir);
+        return ended(smaller, GJKResult::Intersection);
     }
-    ended(simplex, GJKResult::Intersection)
+    let mut next = r;
+    next.proj = proj;
+    next.old_dir = dir;
+    next.niter = r.niter + 1;
+    if next.niter == 100 {
+        return ended(smaller, GJKResult::NoIntersection(Vec3::X));
+    }
+    onward(smaller, next)
 }
 
 // The turns. A hundred rounds end the run, and a turn that is no round is followed by one of six
@@ -294,33 +328,6 @@ fn run_of(q: Query, simplex: VoronoiSimplex, start: Round) -> Gjk
     }
 }
 
-// What stands before the loop.
-fn start_of(simplex: VoronoiSimplex) -> Turn
-    ensures { λ t. ⌜ t ≡ startOf binary32 simplex ⌝ }
-{
-    let found = reduction::project_origin(simplex);
-    let Projected::At(proj, location) = found else {
-        return ended(simplex, GJKResult::Refused);
-    };
-    let applied = reduction::apply_location(simplex, location);
-    let smaller = applied.simplex;
-    let unit = proj.try_normalize();
-    let MaybeVec3::Some(proj_dir) = unit else {
-        return ended(smaller, GJKResult::Intersection);
-    };
-    let largest = number::largest();
-    let round = Round {
-        proj,
-        old_dir: proj_dir.neg(),
-        max_bound: largest,
-        best_min_bound: -largest,
-        support_scale: 0.0,
-        nb_perturbs: 0,
-        niter: 0,
-    };
-    onward(smaller, round)
-}
-
 // Refusal 2 hands the simplex back as it came in.
 fn finished(given: VoronoiSimplex, run: Gjk) -> Gjk
     ensures { λ g. ⌜ g ≡ finishedBy given run ⌝ }
@@ -338,7 +345,7 @@ fn finished(given: VoronoiSimplex, run: Gjk) -> Gjk
     }
 }
 
-// The distance of two shapes, or that they meet. `pos12` is the pose of `g2` in the frame of `g1`.
+// The closest points of two shapes, or a direction that parts them; or that they meet. `pos12` is the pose of `g2` in the frame of `g1`.
 pub fn closest_points(
     pos12: Pose,
     g1: Shape,

@@ -16,7 +16,7 @@ run-of-requires c κs = few-first binary32 _ _ (ap (λ (t : Turn). t .next) (sym
 
 returns : tie.Need-returns
 unfolding closestPoints closestWithin after
-returns c = both-of (λ (g : Gjk). g .result) (simp (← c .before .before .before .before .before .before .before .eps-tol .ensures, ← c .before .before .before .before .before .before .sqrt .ensures .0, ← c .before .before .before .before .before .start-of .ensures, ← c .finished .ensures, c .before .before .next .given .1))
+returns c = both-of (λ (g : Gjk). g .result) (simp (← c .before .before .before .before .before .start-of .ensures, ← c .finished .ensures, c .before .before .next .given .1))
 
 returns-2 : tie.Need-returns-2
 unfolding closestPoints closestWithin after
