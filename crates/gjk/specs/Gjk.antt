@@ -6,11 +6,11 @@ use Prim.Native.Nat.{ℕ, zero, suc, _+_}
 use mathlib.Core.Bool.{Bool, true, false, not, _&&_, cond}
 use lib.Dec.{ltb, eqb}
 use lib.Ieee as Ieee
-use lib.Ieee.{Float, Format, lt, le}
+use lib.Ieee.{Float, Format, le}
 use lib.Ieee.Scale.{finite}
 use Rattle.number.specs.Constants.{epsTol, largest}
 use Rattle.number.specs.Root.{root}
-use Rattle.number.specs.Small.{larger}
+use Rattle.number.specs.Small.{gt, ge, larger}
 use Rattle.vector.specs.declared.vec3.Vec3.{Vec3}
 use Rattle.vector.specs.declared.vec3.MaybeVec3.{MaybeVec3}
 use Rattle.vector.specs.declared.vec3.MaybeVec3.the-variants as MaybeVec3
@@ -134,7 +134,7 @@ module _ (f : Format) where
 
   -- `exact_dist && best_min_bound >= -_eps_rel * support_scale`
   unfoldable pub touching : Search → Round → Bool
-  touching k r = k .exact && le (_⊗_ f (Ieee.neg (k .epsRel)) (r .«support_scale»)) (r .«best_min_bound»)
+  touching k r = k .exact && ge (r .«best_min_bound») (_⊗_ f (Ieee.neg (k .epsRel)) (r .«support_scale»))
 
   -- ---- what stands before the loop: the first projection, `old_dir`, and the starting bounds
   unfoldable pub firstRound : Vec3 → Vec3 → Round
@@ -158,12 +158,12 @@ module _ (f : Format) where
   directed s r =
       let unit = normalizeAndLengthV f (negV (r .proj)) in
       let dist = unit .length in
-      cond (lt (epsTol f) dist) (goesOn s (boundedBy r dist) (unit .normalized)) (over (endedWith s Intersection))
+      cond (gt dist (epsTol f)) (goesOn s (boundedBy r dist) (unit .normalized)) (over (endedWith s Intersection))
 
   -- what stands in `if max_bound >= old_max_bound`
   unfoldable pub stagnated : Search → VoronoiSimplex → Round → Vec3 → Part
   stagnated k s r dir =
-      cond (lt zeroF (r .«best_min_bound»)) (over (endedWith s (apartBy (k .exact) s true (r .«old_dir»))))
+      cond (gt (r .«best_min_bound») zeroF) (over (endedWith s (apartBy (k .exact) s true (r .«old_dir»))))
       (cond (touching k r) (over (endedWith s (closestBy s true (r .«old_dir»))))
       (cond (ltb (r .«nb_perturbs») maxPerturbations) (goesOn s (perturbedRound r) (perturbedDir f dir (r .«nb_perturbs» + 1)))
       (over (endedWith s Intersection))))
@@ -175,15 +175,15 @@ module _ (f : Format) where
   -- `if min_bound > max_dist`, `else if !exact_dist && min_bound > 0.0 && max_bound <= max_dist`, `else if max_bound - min_bound <= _eps_rel * max_bound`
   unfoldable pub bounded : Search → VoronoiSimplex → Round → Vec3 → Float → Part
   bounded k s r dir minBound =
-      cond (lt (k .maxDist) minBound) (over (endedWith s (NoIntersection dir)))
-      (cond (not (k .exact) && lt zeroF minBound && le (r .«max_bound») (k .maxDist)) (over (endedWith s (Proximity (r .«old_dir»))))
+      cond (gt minBound (k .maxDist)) (over (endedWith s (NoIntersection dir)))
+      (cond (not (k .exact) && gt minBound zeroF && le (r .«max_bound») (k .maxDist)) (over (endedWith s (Proximity (r .«old_dir»))))
       (cond (le (_⊖_ f (r .«max_bound») minBound) (_⊗_ f (k .epsRel) (r .«max_bound»))) (over (endedWith s (apartBy (k .exact) s false dir)))
       (goesOn s r dir)))
 
   -- what stands in `if !simplex.add_point(cso_point)`: the run ends, or by `continue` the turn alone
   unfoldable pub stalled : Search → VoronoiSimplex → Round → Vec3 → Turn
   stalled k s r dir =
-      cond (lt zeroF (r .«best_min_bound»)) (endedWith s (apartBy (k .exact) s false dir))
+      cond (gt (r .«best_min_bound») zeroF) (endedWith s (apartBy (k .exact) s false dir))
       (cond (touching k r) (endedWith s (closestBy s false dir))
       (cond (ltb (r .«nb_perturbs») maxPerturbations) (onwardWith s r) (endedWith s Intersection)))
 
@@ -200,7 +200,7 @@ module _ (f : Format) where
   abbrev pub reducedTo : Search → VoronoiSimplex → Projected → Round → Vec3 → Float → Turn
   reducedTo k s (Projected.At proj location) r dir minBound =
       cond (eqb (s .dim) 3)
-      (cond (le (epsTol f) minBound) (endedWith s (apartBy (k .exact) s true dir)) (endedWith s Intersection))
+      (cond (ge minBound (epsTol f)) (endedWith s (apartBy (k .exact) s true dir)) (endedWith s Intersection))
       (cond (eqb (r .niter + 1) 100) (endedWith s (NoIntersection xV)) (onwardWith s (roundAfter r proj dir)))
   reducedTo k s Projected.Refused r dir minBound = endedWith s Refused
 
@@ -225,7 +225,7 @@ module _ (f : Format) where
   turnOf k s r =
       let oldMaxBound = r .«max_bound» in
       directed s r ▷ λ s₁ r₁ dir₁.
-      cond (le oldMaxBound (r₁ .«max_bound»)) (stagnated k s₁ r₁ dir₁) (goesOn s₁ r₁ dir₁) ▷
+      cond (ge (r₁ .«max_bound») oldMaxBound) (stagnated k s₁ r₁ dir₁) (goesOn s₁ r₁ dir₁) ▷
       probed k
 
   -- at most n turns; none is left only where n is too small
