@@ -1,2 +1,3 @@
 -- Laws of the definitions, for the proofs of this crate.
 pub mod Reading
+pub mod Unread

@@ -1,11 +1,11 @@
 // What moves the bytes of a program over case files: standard input through one buffer, lines through another to standard
 // output, so that memory does not grow with the file. What is read and written for a record is the program's own.
 // A read that fails, unlike the file's end, ends a run as failed, and so does a write that fails.
-// No contract can say which bytes come in or where they go: those here say how the window and the places of a run move.
+// No contract can say which bytes come in or where they go: those here say how the window and the places of a run move,
+// and which bytes stay.
 ghost use mathlib.Core.Path.{_≡_};
 ghost use mathlib.Core.Bool.{true};
-ghost use lib.ListN.{length};
-ghost use Rattle.pipes.specs.Pipes.{startWindow, enoughOf, Brought, ReadOn, Read, Filled, Roomy, Written, isOpen, afterTurn, Readied};
+ghost use Rattle.pipes.specs.Pipes.{startWindow, enoughOf, Kept, Brought, ReadOn, Read, Filled, Written, Roomy, isOpen, afterTurn, Readied};
 use libc::STDERR_FILENO;
 use libc::STDIN_FILENO;
 use libc::STDOUT_FILENO;
@@ -72,6 +72,7 @@ pub fn start() -> Window
 // One read into the buffer from `at` on.
 fn read_from(input: &mut [u8], at: usize) -> Got
     ensures { λ r. ⌜ Brought at r ⌝ }
+    ensures { λ _. ⌜ Kept at (now (input .entry)) (now (input .exit)) ⌝ }
 {
     if input.len() <= at {
         return Got::Failed;
@@ -90,6 +91,7 @@ fn read_from(input: &mut [u8], at: usize) -> Got
 // The window with what one read brings.
 fn read_on(input: &mut [u8], w: Window) -> Seen
     ensures { λ r. ⌜ ReadOn w r ⌝ }
+    ensures { λ _. ⌜ Kept (w .until) (now (input .entry)) (now (input .exit)) ⌝ }
 {
     let got = read_from(input, w.until);
     match got {
@@ -110,7 +112,7 @@ fn read_on(input: &mut [u8], w: Window) -> Seen
 }
 
 // Whether the window has what decides a record.
-pub fn has_enough(w: Window) -> bool
+fn has_enough(w: Window) -> bool
     ensures { λ r. ⌜ r ≡ enoughOf w ⌝ }
 {
     if w.ended {
@@ -123,6 +125,7 @@ pub fn has_enough(w: Window) -> bool
 fn read_enough(input: &mut [u8], w: Window) -> Seen
     requires { ⌜ w .«from» ≡ 0 ⌝ }
     ensures { λ r. ⌜ Read w r ⌝ }
+    ensures { λ _. ⌜ Kept (w .until) (now (input .entry)) (now (input .exit)) ⌝ }
 {
     let mut seen = w;
     let mut i: usize = 0;
@@ -141,8 +144,8 @@ fn read_enough(input: &mut [u8], w: Window) -> Seen
 }
 
 // The window with what decides the next record: as it is, or moved to the buffer's start and read on.
-pub fn filled(input: &mut [u8], w: Window) -> Seen
-    ensures { λ r. ⌜ Filled w r ⌝ }
+fn filled(input: &mut [u8], w: Window) -> Seen
+    ensures { λ r. ⌜ Filled w (now (input .entry)) (now (input .exit)) r ⌝ }
 {
     if has_enough(w) {
         return Seen::At(w);
@@ -163,9 +166,9 @@ pub fn flushed(out: &[u8], place: usize) -> bool
     io::write_all(STDOUT_FILENO, &out[..place])
 }
 
-// There is room for a line.
+// Where there is room for a line: here, or at the start once what is there is written.
 pub fn with_room(out: &[u8], place: usize) -> Room
-    ensures { λ r. ⌜ Roomy r ⌝ }
+    ensures { λ r. ⌜ Roomy (now (out .entry)) place r ⌝ }
 {
     if place <= NEARLY_FULL {
         return Room::At(place);
@@ -176,7 +179,8 @@ pub fn with_room(out: &[u8], place: usize) -> Room
     Room::Failed
 }
 
-// What failed goes to standard error, where it can.
+// What failed goes to standard error, where it can. There is nothing to promise: it answers nothing, and writes to nothing
+// that it is lent.
 pub fn complain(what: &[u8]) {
     io::write_all(STDERR_FILENO, what);
 }
@@ -193,12 +197,12 @@ pub fn is_open(state: State) -> bool
     }
 }
 
-// The next record's bytes are there, and there is room for its line.
+// The next record's bytes are there, and there is room for its line. A state that is not open is handed on.
 pub fn make_ready(state: State, input: &mut [u8], out: &[u8]) -> Ready
-    ensures { λ r. ⌜ Readied (length (now (input .exit))) r ⌝ }
+    ensures { λ r. ⌜ Readied state (now (out .entry)) (now (input .entry)) (now (input .exit)) r ⌝ }
 {
     let State::Open(given, at) = state else {
-        return Ready::Over(State::Failed(0));
+        return Ready::Over(state);
     };
     let drain = with_room(out, at);
     let Room::At(place) = drain else {
@@ -217,7 +221,7 @@ pub fn make_ready(state: State, input: &mut [u8], out: &[u8]) -> Ready
     Ready::Record(window, place)
 }
 
-// After the line of a record, or in its place.
+// Where a run stands after a turn.
 pub fn after(answer: Turn, w: Window, place: usize) -> State
     ensures { λ r. ⌜ r ≡ afterTurn answer w place ⌝ }
 {
