@@ -1,6 +1,6 @@
 //! The call alone: the records of a case file are decoded first, then answered one after another by the published Rust
 //! and, where the port's library was linked (`--cfg port`), by the port. Prints a line for each: its name, the processor
-//! time in seconds, and a checksum of all answers, which must be the same.
+//! time in seconds, and a checksum of all answers, which must be the same for `rust` and `port`.
 //!
 //!   library FILE
 
@@ -21,7 +21,7 @@ mod port;
 #[path = "../oracle/src/published.rs"]
 mod published;
 
-use casefile::{Next, Reader, Record};
+use casefile::{Reader, Record};
 use channel::{Answer, Channel};
 use parry3d::query::epa::epa3::EPA;
 use parry3d::query::epa::epa3_published::EPA as PublishedEpa;
@@ -73,7 +73,7 @@ fn add_answer(checksum: &mut Checksum, answer: &Answer) {
 
 /// The published text over stores of a lent length, with the counts of each run: the port's job.
 fn time_rust(records: &[Record]) -> u64 {
-    let mut channel = Channel::<EPA>::new(channel::ROOMS);
+    let mut channel = Channel::<EPA>::new(Rooms::PROGRAM);
     print_timed("rust", records, |record, checksum| add_answer(checksum, &channel.answer(record)))
 }
 
@@ -102,13 +102,10 @@ fn time_port(_: &[Record]) -> Option<u64> {
 fn decoded(path: &str) -> io::Result<Vec<Record>> {
     let mut reader = Reader::new(std::fs::File::open(path)?);
     let mut records = Vec::new();
-    loop {
-        match reader.next()? {
-            Next::Record(record) => records.push(record),
-            Next::End => return Ok(records),
-            Next::Bad(offset) => return Err(io::Error::other(format!("malformed at {offset}"))),
-        }
+    while let Some(record) = reader.well_formed()? {
+        records.push(record);
     }
+    Ok(records)
 }
 
 /// Status 1: the checksums differ, or the file cannot be read. Status 2: the command line is wrong.

@@ -14,19 +14,12 @@ WALK says how the silhouette is walked:
     plain       a loop over a store of pending questions, last in, first out
 
 No edit touches arithmetic or, but for the ties of ORDER, a test of the Rust. An edit whose old text is not found exactly
-as often as it says stops the script: the published text is then not the one it was made for.
+once stops the script: the published text is then not the one it was made for.
 """
 
 import sys
-from typing import NamedTuple
 
-
-class Edit(NamedTuple):
-    why: str
-    old: str
-    new: str
-    times: int = 1
-
+from editing import Edit, edited, indent, print_edits
 
 EDITS = [
     Edit(
@@ -104,10 +97,6 @@ LOOKUPS = [
 
 def assignment(way: str) -> str:
     return f"self.way_out = crate::query::epa::WayOut::{way};\n"
-
-
-def indent(line: str) -> str:
-    return line[: len(line) - len(line.lstrip())]
 
 
 def before(line: str, way: str, why: str) -> Edit:
@@ -255,34 +244,20 @@ WALKS = {
 }
 
 
-def apply(text: str, edit: Edit) -> str:
-    found = text.count(edit.old)
-    if found != edit.times:
-        sys.exit(f"edit_epa3.py: found {found} times, not {edit.times}: {edit.why}\n{edit.old}")
-    return text.replace(edit.old, edit.new)
+EVERY_COPY = EDITS + LOOKUPS + WAYS_OUT
 
 
-def edited(text: str, order: str, walk: str) -> str:
-    for edit in EDITS + LOOKUPS + WAYS_OUT + ORDERS[order] + WALKS[walk]:
-        text = apply(text, edit)
-    return text
-
-
-def print_edits() -> None:
-    groups = [("every copy", EDITS + LOOKUPS + WAYS_OUT)]
-    groups += [(f"order {name}", edits) for name, edits in ORDERS.items() if edits]
-    groups += [(f"walk {name}", edits) for name, edits in WALKS.items() if edits]
-    for group, edits in groups:
-        for edit in edits:
-            print(f"{group}: {edit.why}")
-            for sign, part in (("-", edit.old), ("+", edit.new)):
-                for line in part.rstrip("\n").split("\n"):
-                    print(f"  {sign} {line}")
+def print_all() -> None:
+    print_edits("every copy", EVERY_COPY)
+    for name, edits in ORDERS.items():
+        print_edits(f"order {name}", edits)
+    for name, edits in WALKS.items():
+        print_edits(f"walk {name}", edits)
 
 
 def main(arguments: list[str]) -> None:
     if arguments == ["--list"]:
-        print_edits()
+        print_all()
         return
     if len(arguments) not in (2, 3, 4):
         sys.exit(__doc__)
@@ -290,7 +265,7 @@ def main(arguments: list[str]) -> None:
     if order not in ORDERS or walk not in WALKS:
         sys.exit(__doc__)
     with open(source, encoding="utf-8") as file:
-        text = edited(file.read(), order, walk)
+        text = edited(file.read(), EVERY_COPY + ORDERS[order] + WALKS[walk])
     with open(copy, "w", encoding="utf-8") as file:
         file.write(text)
 

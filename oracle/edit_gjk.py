@@ -9,23 +9,14 @@ once in `minkowski_ray_cast` stops the script: the published text is then not th
 """
 
 import sys
-from typing import NamedTuple
+
+from editing import Edit, edited, indent, print_edits
 
 NAME = "fn minkowski_ray_cast<G1, G2>(\n"
 
 
-class Edit(NamedTuple):
-    why: str
-    old: str
-    new: str
-
-
 def note(way: str) -> str:
     return f"crate::query::ways::note(crate::query::ways::Way::{way});\n"
-
-
-def indent(line: str) -> str:
-    return line[: len(line) - len(line.lstrip())]
 
 
 def before(first: str, line: str, way: str, why: str) -> Edit:
@@ -88,38 +79,20 @@ EDITS = [
 ]
 
 
-def apply(text: str, edit: Edit) -> str:
-    found = text.count(edit.old)
-    if found != 1:
-        sys.exit(f"edit_gjk.py: found {found} times, not once: {edit.why}\n{edit.old}")
-    return text.replace(edit.old, edit.new)
-
-
-def edited(text: str) -> str:
+def with_cast_edited(text: str) -> str:
     """The cast alone is edited: from its name to the next function."""
     start = text.index(NAME)
     end = text.index("\nfn perturbed_dir", start)
-    cast = text[start:end]
-    for edit in EDITS:
-        cast = apply(cast, edit)
-    return text[:start] + cast + text[end:]
-
-
-def print_edits() -> None:
-    for edit in EDITS:
-        print(edit.why)
-        for sign, part in (("-", edit.old), ("+", edit.new)):
-            for line in part.strip("\n").split("\n"):
-                print(f"  {sign} {line}")
+    return text[:start] + edited(text[start:end], EDITS) + text[end:]
 
 
 def main(arguments: list[str]) -> None:
     if arguments == ["--list"]:
-        print_edits()
+        print_edits("the cast", EDITS)
     elif len(arguments) == 2:
         source, copy = arguments
         with open(source, encoding="utf-8") as file:
-            text = edited(file.read())
+            text = with_cast_edited(file.read())
         with open(copy, "w", encoding="utf-8") as file:
             file.write(text)
     else:

@@ -1,6 +1,6 @@
 //! The port's heap against the toolchain's own `BinaryHeap`, over random runs of push, pop and peek: both lists of the port after each
 //! operation, the entries place by place as `BinaryHeap::as_slice` has them, zeros in the places that were used and are free, and what the
-//! lists held before in the places that were never used. Between operations every call is made with counts that are none (0, full, above
+//! lists held before in the places that were never used. After each run every call is made with counts that are none (0, full, above
 //! the room), and must answer as said and write nothing.
 
 use crate::answers::Answer;

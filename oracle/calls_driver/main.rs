@@ -47,7 +47,7 @@ The program is target/bin/calls (rt check calls), or the one that CALLS names.
 /// Compares by calls, so many and from a seed.
 type Compare = fn(&mut Check, u64, u64) -> Compared;
 
-/// Status 1: a difference. Status 2: the command line is wrong.
+/// Status 1: a difference. Status 2: the command line is wrong. Status 3: the program does not start.
 fn main() -> ExitCode {
     std::panic::set_hook(Box::new(|_| {}));
     let arguments: Vec<String> = std::env::args().skip(1).collect();

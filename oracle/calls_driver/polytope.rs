@@ -122,7 +122,7 @@ fn rust_run(epa: &mut impl Readable, case: &Case, rooms: Rooms) -> Run {
     }
 }
 
-/// The room that a run with no limit needs, up to what the program can lend.
+/// The room that a run with no limit needs, up to what the programs lend.
 fn needed(run: &Run) -> Rooms {
     let used = run.contents.as_ref().map_or([0; 5], |contents| {
         [
@@ -135,27 +135,18 @@ fn needed(run: &Run) -> Rooms {
     });
     let [vertices, edges, faces, heap, pending] = used;
     Rooms {
-        vertices: vertices.min(PLENTY.vertices),
-        edges: edges.min(PLENTY.edges),
-        faces: faces.min(PLENTY.faces),
-        heap: heap.min(PLENTY.heap),
-        pending: pending.min(PLENTY.pending),
+        vertices: vertices.min(Rooms::PROGRAM.vertices),
+        edges: edges.min(Rooms::PROGRAM.edges),
+        faces: faces.min(Rooms::PROGRAM.faces),
+        heap: heap.min(Rooms::PROGRAM.heap),
+        pending: pending.min(Rooms::PROGRAM.pending),
     }
 }
 
-/// The room that the program lends to the channel.
-const PLENTY: Rooms = Rooms {
-    vertices: 105,
-    edges: 206,
-    faces: 1000,
-    heap: 1000,
-    pending: 206,
-};
-
-/// Half have what the run needs or a little more, one in fifty plenty; of the others one store is short, or all are.
+/// Half have what the run needs or a little more, one in fifty what the programs lend; of the others one store is short, or all are.
 fn lent(random: &mut Random, need: Rooms, walk: Walk) -> Rooms {
     if random.below(50) == 0 {
-        return PLENTY;
+        return Rooms::PROGRAM;
     }
     let stores = match walk {
         Walk::Recursive => 4,
@@ -179,7 +170,7 @@ fn lent(random: &mut Random, need: Rooms, walk: Walk) -> Rooms {
     if walk == Walk::Plain {
         rooms.pending = room(4, need.pending);
         if random.below(10) == 0 {
-            rooms.pending = random.below(PLENTY.pending + 1);
+            rooms.pending = random.below(Rooms::PROGRAM.pending + 1);
         }
     }
     rooms

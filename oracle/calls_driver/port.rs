@@ -2,8 +2,9 @@
 //! Neither waits for the other, so that an answer that is too short or too long is a difference and no standstill.
 
 use crate::words::{Put, Words};
-use std::io::{Read, Write};
-use std::process::{Child, ChildStdin, ChildStdout, Command, Stdio};
+use std::fs;
+use std::io::{self, Read, Write};
+use std::process::{exit, Child, ChildStdin, ChildStdout, Command, Stdio};
 use std::sync::mpsc::{sync_channel, Receiver, SyncSender};
 use std::thread::{self, JoinHandle};
 
@@ -48,24 +49,30 @@ pub struct Port {
     child: Child,
 }
 
-/// The program that CALLS names, or the one that the kit built, for x86-64.
-fn program() -> Command {
-    match std::env::var_os("CALLS") {
-        Some(program) => Command::new(program),
-        None => {
-            let mut command = Command::new("tools/run");
-            command.arg("target/bin/calls");
-            command
-        }
+/// What the kit built, for x86-64.
+const BUILT: &str = "target/bin/calls";
+
+/// The program that CALLS names, or the one that the kit built. That it is there is seen here: tools/run, which is there, would start.
+fn program() -> io::Result<Command> {
+    if let Some(program) = std::env::var_os("CALLS") {
+        return Ok(Command::new(program));
     }
+    fs::metadata(BUILT)?;
+    let mut command = Command::new("tools/run");
+    command.arg(BUILT);
+    Ok(command)
 }
 
+/// Where the program does not start nothing can be compared: status 3.
 pub fn start() -> (Child, ChildStdin, ChildStdout) {
-    let mut child = program()
-        .stdin(Stdio::piped())
-        .stdout(Stdio::piped())
-        .spawn()
-        .expect("the program `calls` starts: rt check calls, or CALLS");
+    let spawn = |mut command: Command| {
+        let piped = command.stdin(Stdio::piped()).stdout(Stdio::piped());
+        piped.spawn()
+    };
+    let mut child = program().and_then(spawn).unwrap_or_else(|error| {
+        eprintln!("calls_driver: {BUILT}, which `rt check calls` builds, or the program that CALLS names does not start: {error}");
+        exit(3)
+    });
     let input = child.stdin.take().expect("it has an input");
     let output = child.stdout.take().expect("it has an output");
     (child, input, output)

@@ -204,6 +204,15 @@ impl<R: Read> Reader<R> {
         })
     }
 
+    /// The next record, or `None` at the file's end, for who has no answer to a malformed file: it is an error.
+    pub fn well_formed(&mut self) -> io::Result<Option<Record>> {
+        match self.next()? {
+            Next::Record(record) => Ok(Some(record)),
+            Next::End => Ok(None),
+            Next::Bad(offset) => Err(io::Error::other(format!("malformed at byte {offset}"))),
+        }
+    }
+
     /// Makes sure that a whole record or the file's end is in the buffer.
     fn fill(&mut self) -> io::Result<()> {
         while self.end - self.start < LONGEST_RECORD && !self.at_end {

@@ -7,15 +7,6 @@ use parry3d::lent::NoRoom;
 use parry3d::query::epa::{Counts, Polytope, Rooms};
 use std::panic::{self, AssertUnwindSafe};
 
-/// What the first program lends.
-pub const ROOMS: Rooms = Rooms {
-    vertices: 105,
-    edges: 206,
-    faces: 1000,
-    heap: 1000,
-    pending: 206,
-};
-
 pub type Answer = answer::Answer<Counts>;
 
 /// Panics are answers here, so nothing is to be printed about them.

@@ -4,7 +4,7 @@
 //! every record that reaches the polytope. The recursive and the plain walk must leave the same
 //! counts and the same in their stores too, and the plain one no question that is pending.
 
-use crate::casefile::{Next, Reader, Record};
+use crate::casefile::{Reader, Record};
 use crate::channel::{Answer, Channel};
 use crate::order;
 use crate::stores;
@@ -77,7 +77,7 @@ pub fn edits(input: impl Read, output: &mut impl Write) -> io::Result<()> {
     let mut reader = Reader::new(input);
     let mut copies = Copies::new();
     let (mut records, mut reached): (u64, u64) = (0, 0);
-    while let Next::Record(record) = reader.next()? {
+    while let Some(record) = reader.well_formed()? {
         records += 1;
         let compared = copies.compare(&record);
         let numbered = |error| io::Error::other(format!("record {records}: {error}"));

@@ -39,8 +39,8 @@ oracle casts run|ways                             casts as words on standard inp
 ROOM is vertices=N, edges=N, faces=N, heap=N or pending=N
 ";
 
-/// Status 2: the command line is wrong. Status 1: input or output failed, or `edits` found a
-/// difference.
+/// Status 2: the command line is wrong. Status 1: input or output failed, or `edits` or `casts ways`
+/// found a difference, or a case file is malformed that `edits`, `stats`, `stores` or `order` reads.
 fn main() -> ExitCode {
     channel::silence_panics();
     let arguments: Vec<String> = std::env::args().skip(1).collect();
@@ -84,8 +84,8 @@ fn command(words: &[&str]) -> io::Result<Option<()>> {
                 seed,
                 count,
                 |copy, lines| match *name {
-                    "run" => run::run(copy, lines, channel::ROOMS),
-                    _ => reasons::reasons(copy, lines, channel::ROOMS),
+                    "run" => run::run(copy, lines, Rooms::PROGRAM),
+                    _ => reasons::reasons(copy, lines, Rooms::PROGRAM),
                 },
             )?;
         }
@@ -101,8 +101,8 @@ fn command(words: &[&str]) -> io::Result<Option<()>> {
         ["edits"] => edits::edits(input, &mut output)?,
         ["heap"] => heap::heap(&mut output)?,
         ["families"] => families::names().try_for_each(|name| writeln!(output, "{name}"))?,
-        ["order", "smallest"] => smallest::smallest(&mut output, channel::ROOMS)?,
-        ["order", "lines"] => run::run_by::<FirstEpa>(input, &mut output, channel::ROOMS)?,
+        ["order", "smallest"] => smallest::smallest(&mut output, Rooms::PROGRAM)?,
+        ["order", "lines"] => run::run_by::<FirstEpa>(input, &mut output, Rooms::PROGRAM)?,
         [name, sizes @ ..] => {
             let Some(rooms) = rooms(sizes) else {
                 return Ok(None);
@@ -121,9 +121,9 @@ fn command(words: &[&str]) -> io::Result<Option<()>> {
     Ok(Some(()))
 }
 
-/// The rooms that the program lends, some of them changed.
+/// The rooms that the programs lend, some of them changed.
 fn rooms(sizes: &[&str]) -> Option<Rooms> {
-    let mut rooms = channel::ROOMS;
+    let mut rooms = Rooms::PROGRAM;
     for size in sizes {
         let (store, room) = size.split_once('=')?;
         let room = room.parse().ok()?;

@@ -3,7 +3,7 @@
 //! The toolchain's heap fixes an order of equal keys that its documentation does not. These
 //! figures show how much of the answers rests on it.
 
-use crate::casefile::{Next, Reader, Record};
+use crate::casefile::{Reader, Record};
 use crate::channel::{Answer, Channel};
 use crate::lines;
 use parry3d::math::Vector;
@@ -129,7 +129,7 @@ pub fn order(input: impl Read, output: &mut impl Write, rooms: Rooms) -> io::Res
     let mut last = Pair::<LastEpa>::new(rooms);
     let mut figures = [Figures::default(), Figures::default()];
     let mut records: u64 = 0;
-    while let Next::Record(record) = reader.next()? {
+    while let Some(record) = reader.well_formed()? {
         records += 1;
         if let Some(pair) = first.penetrations(&record) {
             figures[0].note(&pair);

@@ -1,6 +1,6 @@
 //! `stats`: what a case file reaches: letters, panic sites, ways out, expansions.
 
-use crate::casefile::{Next, Reader};
+use crate::casefile::Reader;
 use crate::channel::{Answer, Channel};
 use crate::lines;
 use parry3d::query::epa::epa3_plain::EPA;
@@ -106,7 +106,7 @@ pub fn stats(input: impl Read, output: &mut impl Write, rooms: Rooms) -> io::Res
     let mut reader = Reader::new(input);
     let mut channel = Channel::<EPA>::new(rooms);
     let mut stats = Stats::default();
-    while let Next::Record(record) = reader.next()? {
+    while let Some(record) = reader.well_formed()? {
         let answer = channel.answer(&record);
         stats.note(&answer, channel.polytope());
     }

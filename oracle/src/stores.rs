@@ -5,7 +5,7 @@
 //! `e` face and corner; `h` face and key, in the heap's internal order; `q` face and corner of a
 //! pending question; at last `used` with the places ever used of edges, heap and pending questions.
 
-use crate::casefile::{Next, Reader};
+use crate::casefile::Reader;
 use crate::channel::Channel;
 use crate::lines;
 use parry3d::query::epa::epa3_plain::EPA;
@@ -64,7 +64,7 @@ pub fn stores(input: impl Read, output: &mut impl Write, rooms: Rooms) -> io::Re
     let mut channel = Channel::<EPA>::new(rooms);
     let mut text = Vec::new();
     let mut number = 0;
-    while let Next::Record(record) = reader.next()? {
+    while let Some(record) = reader.well_formed()? {
         number += 1;
         let answer = channel.answer(&record);
         if let Some(polytope) = channel.polytope() {

@@ -1,8 +1,9 @@
 """What a report counts over the lines of a case file."""
 import math
+import re
 from collections import Counter
 
-from reporting.reading import Wrong, cases
+from reporting.reading import WHOLE, Wrong, cases
 
 REFUSALS = "NXR"
 # The places of two counts in a line.
@@ -65,9 +66,13 @@ def reasons_of(text, lines):
         number, _, reason = line.partition(" ")
         if number == "bad":
             continue
-        if not number.isdigit() or not reason:
+        if not re.fullmatch(WHOLE, number) or not reason:
             raise Wrong(f"no line with a reason: {line[:80]!r}")
         if not 1 <= int(number) <= len(lines) or lines.answer(int(number)).letter not in "PNXR":
             raise Wrong(f"a reason for record {number}, which reached no polytope: the reasons are of another file")
         reasons[int(number)] = reason
+    # X is left out: GJK can panic too, and then no polytope was reached.
+    without = next((answer.number for answer in lines if answer.letter in "PNR" and answer.number not in reasons), None)
+    if without is not None:
+        raise Wrong(f"no reason for record {without}, which reached the polytope: the reasons are of another file")
     return reasons

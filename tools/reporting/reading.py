@@ -60,10 +60,14 @@ def flaw_at(data, at):
 # ---- the lines
 
 
+# A number of 32 bits, as records are numbered; a count is less.
+WHOLE = r"\d{1,10}"
+
+
 def line_pattern(letter):
     told = cases.LETTERS[letter]
-    counts = rf"((?: \d+){{{len(cases.COUNTS)}}})" if told.has_counts else "()"
-    return re.compile(rf"(\d+) {letter}((?: [0-9A-F]{{8}}){{{3 * len(told.groups)}}}){counts}")
+    counts = rf"((?: {WHOLE}){{{len(cases.COUNTS)}}})" if told.has_counts else "()"
+    return re.compile(rf"({WHOLE}) {letter}((?: [0-9A-F]{{8}}){{{3 * len(told.groups)}}}){counts}")
 
 
 PATTERNS = {letter: line_pattern(letter) for letter in cases.LETTERS}
@@ -101,10 +105,10 @@ class Lines:
         lines = text.splitlines()
         if lines[:1] != ["separation 1"]:
             raise Wrong("the lines do not begin with 'separation 1'")
-        last = re.fullmatch(r"cases (\d+)", lines[-1])
+        last = re.fullmatch(rf"cases ({WHOLE})", lines[-1])
         if not last:
             raise Wrong("the lines do not end with 'cases N': the program did not finish")
-        bad = re.fullmatch(r"bad (\d+)", lines[-2])
+        bad = re.fullmatch(r"bad (\d{1,20})", lines[-2])
         self.bad = int(bad[1]) if bad else None
         self.lines = lines[1 : -2 if bad else -1]
         if len(self.lines) != int(last[1]):

@@ -17,7 +17,7 @@ LAST_EXPANSION = 101
 CARRIES = {
     "D": "apart: two points and the direction between them",
     "M": "near, and not asked exactly: an approximate direction",
-    "S": "farther than the largest distance: a direction",
+    "S": "farther than the largest distance, or the search did not settle: a direction",
     "P": "two points, the normal and the counts of the run",
     "N": "refusal 1: the polytope's run found no answer",
     "X": "refusal 2: the Rust would panic",

@@ -37,6 +37,15 @@ impl Rooms {
         heap: usize::MAX,
         pending: usize::MAX,
     };
+
+    /// What the programs lend.
+    pub const PROGRAM: Rooms = Rooms {
+        vertices: 105,
+        edges: 206,
+        faces: 1000,
+        heap: 1000,
+        pending: 206,
+    };
 }
 
 /// The counts of a run, valid whatever way it ended.
