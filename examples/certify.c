@@ -19,8 +19,11 @@ static separation_grid_vector direction_between(void)
     return separation_propose(separation_run_on(pose, upper, lower, start, 10, true, &stores).normal);
 }
 
+/* Status 2: the floating-point environment is not the one that every channel must have. */
 int main(void)
 {
+    if (!separation_environment())
+        return 2;
     separation_grid_vector direction = direction_between(), none = {0, 0, 0};
     printf("%2u\n", separation_certify(SEPARATION_LENT(upper_hull), SEPARATION_LENT(lower_hull), direction));
     printf("%2u\n", separation_certify(SEPARATION_LENT(lower_hull), SEPARATION_LENT(upper_hull), direction));

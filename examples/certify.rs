@@ -20,6 +20,7 @@ fn direction_between() -> GridVector {
 }
 
 fn main() {
+    assert!(separation::environment(), "the floating-point environment is not the one that every channel must have");
     let direction = direction_between();
     let (upper, lower) = (UPPER.concat(), LOWER.concat());
     println!("{:2}", certify(&upper, &lower, direction) as u32);

@@ -25,8 +25,11 @@ static void print_impact(separation_impact impact)
     printf("\n");
 }
 
+/* Status 2: the floating-point environment is not the one that every channel must have. */
 int main(void)
 {
+    if (!separation_environment())
+        return 2;
     print_impact(swept(-1, 2));
     print_impact(swept(-1, 0.2f));
     print_impact(swept(1, 2));

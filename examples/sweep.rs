@@ -26,6 +26,7 @@ fn line(cast: Cast) -> String {
 }
 
 fn main() {
+    assert!(separation::environment(), "the floating-point environment is not the one that every channel must have");
     for (along_x, max_time) in [(-1.0, 2.0), (-1.0, 0.2), (1.0, 2.0)] {
         println!("{}", line(swept(along_x, max_time)));
     }
