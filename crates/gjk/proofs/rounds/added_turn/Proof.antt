@@ -1,4 +1,4 @@
--- `added_turn` returns `added`, answer by answer.
+-- `added_turn` returns `added` and what follows it, answer by answer.
 use borrow.Author.Needs.{needs}
 use Rattle.gjk.specs.Gjk.{added}
 use Rattle.gjk.proofs.rounds.added_turn.Statement.{statement}

@@ -1,4 +1,4 @@
--- `bounded_turn` returns `bounded`, test by test.
+-- `bounded_turn` returns `bounded` and what follows it, test by test.
 use borrow.Author.Needs.{needs}
 use lib.Ieee.{ofBits}
 use Rattle.gjk.specs.Gjk.{bounded}

@@ -1,4 +1,4 @@
--- `stagnated_turn` returns `stagnated`, test by test.
+-- `stagnated_turn` returns `stagnated` and what follows it, test by test.
 use borrow.Author.Needs.{needs}
 use borrow.Author.Tests.{le-ltb, lt-ltb}
 use lib.Ieee.{ofBits}
