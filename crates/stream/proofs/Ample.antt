@@ -13,7 +13,7 @@ use Rattle.lines.specs.Text.{placeOf}
 use Rattle.lines.specs.Lines.{lineOf}
 use Rattle.epa_polytope.specs.Stores.{Lists}
 use Rattle.epa_polytope.specs.Bounds.{Ample}
-use Rattle.channel.specs.Channel.{Placed}
+use Rattle.channel.specs.Channel.{HadRoom}
 use Rattle.channel.proofs.Ample.{ample-separated}
 use Rattle.stream.specs.Reading.{lineTold, mostRecords, readNext}
 use Rattle.stream.specs.Stream.{caseOutcome, turnOf}
@@ -22,7 +22,7 @@ use Rattle.stream.specs.Stream.{caseOutcome, turnOf}
 pub record Line (f : Format) (b : List ℕ) (at base number : ℕ) (o : List ℕ) (place next : ℕ) (l : Lists) : Type 0 where
   pub outcome : Outcome
   pub told : turnOf f b at base number o place l .answer ≡ lineTold next (placeOf o place (lineOf f number outcome))
-  pub placed : Placed outcome
+  pub placed : HadRoom outcome
 
 pub ample-line : (f : Format) (b : List ℕ) (at base number : ℕ) (o : List ℕ) (place : ℕ) (c : Case) (next : ℕ) (l : Lists) → Ample l → number ≤ mostRecords → readCase f b at ≡ Whole c next
     → Line f b at base number o place next l
