@@ -144,7 +144,7 @@ impl Vec3 {
     pub fn length(self) -> f32
         ensures { λ r. ⌜ r ≡ lengthV binary32 self ⌝ }
     {
-        number::sqrt(self.length_squared())
+        number::length_of(self.length_squared())
     }
 
     pub fn length_recip(self) -> f32
