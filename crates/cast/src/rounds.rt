@@ -409,7 +409,7 @@ pub fn minkowski_ray_cast(
         ray,
         max_time_of_impact,
         ray_length,
-        eps_rel: number::sqrt(number::eps_tol()),
+        eps_rel: number::eps_rel(),
     };
     let start = start_of(q);
     let next = start.next;

@@ -27,12 +27,8 @@ use Rattle.simplex.specs.Operations.{addPoint}
 use Rattle.reduction.specs.Reduction.{projectOriginAndReduce}
 use Rattle.gjk.specs.declared.rounds.GJKResult.{GJKResult}
 use Rattle.gjk.specs.declared.rounds.GJKResult.the-variants.{Intersection, Refused}
-use Rattle.gjk.specs.declared.rounds.Round.{Round}
-use Rattle.gjk.specs.declared.rounds.Next.{Next}
-use Rattle.gjk.specs.declared.rounds.Next.the-variants.{Onward, Ended}
-use Rattle.gjk.specs.declared.rounds.Turn.{Turn}
 use Rattle.gjk.specs.Perturbed.{perturbedDir}
-use Rattle.gjk.specs.Gjk.{Search, onwardWith, endedWith, goesOn, over, _▷_, after, boundedBy, perturbedRound, bettered, roundAfter, touching, firstRound, startIn, startAt, startOf}
+use Rattle.gjk.specs.Gjk.{Search, Round, Next, Onward, Ended, Turn, onwardWith, endedWith, goesOn, over, _▷_, after, boundedBy, perturbedRound, bettered, roundAfter, touching, firstRound, startIn, startAt, startOf}
 use Rattle.gjk.specs.Gjk.{directed, stagnated, asserted, bounded, stalled, addedBy, added, reducedTo, reduced, probed, turnOf, runOf, finishedBy, closestWithin, closestPoints}
 
 -- ---- a turn that ends doesn't go on

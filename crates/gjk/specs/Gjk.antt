@@ -31,10 +31,6 @@ use Rattle.gjk.specs.declared.rounds.GJKResult.{GJKResult}
 use Rattle.gjk.specs.declared.rounds.GJKResult.the-variants.{Intersection, ClosestPoints, Proximity, NoIntersection, Refused}
 use Rattle.gjk.specs.declared.rounds.Gjk.{Gjk}
 use Rattle.gjk.specs.declared.rounds.Query.{Query}
-use Rattle.gjk.specs.declared.rounds.Round.{Round}
-use Rattle.gjk.specs.declared.rounds.Next.{Next}
-use Rattle.gjk.specs.declared.rounds.Next.the-variants.{Onward, Ended}
-use Rattle.gjk.specs.declared.rounds.Turn.{Turn}
 use Rattle.gjk.specs.Perturbed.{perturbedDir}
 
 -- ---- document 01's number of each result, 0 or refusal 2, and its values: letter D has two points and a direction, M and S a direction; what a result has not got is zeros
@@ -70,7 +66,25 @@ pub record Search : Type 0 where
 abbrev pub searchOf : Format → Query → Search
 searchOf f q = record { supp = fromShapes f (q .pos12) (q .g1) (q .g2); maxDist = q .«max_dist»; exact = q .«exact_dist»; epsRel = q .«eps_rel» }
 
+-- ---- what the loop carries from round to round, besides the simplex (specs/Carried.antt has what the code carries for it)
+pub record Round : Type 0 where
+  pub proj : Vec3
+  pub «old_dir» : Vec3
+  pub «max_bound» : Float
+  pub «best_min_bound» : Float
+  pub «support_scale» : Float
+  pub «nb_perturbs» : ℕ
+  pub niter : ℕ
+
 -- ---- a turn of the loop ends the run, or goes on
+pub data Next : Type 0 where
+  Onward : Round → Next
+  Ended : GJKResult → Next
+
+pub record Turn : Type 0 where
+  pub simplex : VoronoiSimplex
+  pub next : Next
+
 abbrev pub onwardWith : VoronoiSimplex → Round → Turn
 onwardWith s r = record { simplex = s; next = Onward r }
 

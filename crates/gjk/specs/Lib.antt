@@ -1,3 +1,4 @@
--- What the contracts of this crate cite: the perturbed direction, and `closest_points`.
+-- What the contracts of this crate cite: the perturbed direction, and `closest_points`; and, for private functions alone, what the code carries.
 pub mod Perturbed
 pub mod Gjk
+pub mod Carried

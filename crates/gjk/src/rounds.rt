@@ -3,11 +3,15 @@
 ghost use Prim.Native.Nat.{_<_};
 ghost use mathlib.Core.Path.{_≡_};
 ghost use lib.Ieee.{binary32};
+ghost use Rattle.number.specs.Root.{root};
+ghost use Rattle.number.specs.Small.{larger};
 ghost use Rattle.number.specs.Told.{Told};
+ghost use Rattle.vector.specs.Vector.{lengthV};
 ghost use Rattle.shape.specs.Support.{fromShapes};
 ghost use Rattle.gjk.specs.Gjk.{searchOf, onwardWith, endedWith, _▷_, closestBy, apartBy, touching, startOf};
 ghost use Rattle.gjk.specs.Gjk.{stagnated, bounded, stalled, added, reduced, probed, turnOf};
 ghost use Rattle.gjk.specs.Gjk.{runOf, finishedBy, closestPoints, gjkNumber, gjkValues};
+ghost use Rattle.gjk.specs.Carried.{roundBy, turnBy};
 use crate::perturbed::perturbed_dir;
 use reduction::Projected;
 use shape::Shape;
@@ -38,7 +42,7 @@ pub struct Gjk {
     pub result: GJKResult,
 }
 
-// What a run is asked, and the tolerance that it computes once.
+// What a run is asked, and its tolerance.
 pub struct Query {
     pos12: Pose,
     g1: Shape,
@@ -48,20 +52,20 @@ pub struct Query {
     eps_rel: f32,
 }
 
-// What the Rust's loop carries from round to round, besides the simplex. `niter` stays below 100, as the
-// round that brings it there ends the run.
-pub struct Round {
+// What the Rust's loop carries from round to round, besides the simplex. `support_square` is the square of its `support_scale`: only
+// `is_touching` reads the scale, and takes the root. `niter` stays below 100, as the round that brings it there ends the run.
+pub struct Carried {
     proj: Vec3,
     old_dir: Vec3,
     max_bound: f32,
     best_min_bound: f32,
-    support_scale: f32,
+    support_square: f32,
     nb_perturbs: usize,
     niter: usize,
 }
 
 pub enum Next {
-    Onward(Round),
+    Onward(Carried),
     Ended(GJKResult),
 }
 
@@ -70,8 +74,8 @@ pub struct Turn {
     next: Next,
 }
 
-fn onward(simplex: VoronoiSimplex, round: Round) -> Turn
-    ensures { λ r. ⌜ r ≡ onwardWith simplex round ⌝ }
+fn onward(simplex: VoronoiSimplex, round: Carried) -> Turn
+    ensures { λ r. ⌜ turnBy binary32 r ≡ onwardWith simplex (roundBy binary32 round) ⌝ }
 {
     Turn {
         simplex,
@@ -80,7 +84,7 @@ fn onward(simplex: VoronoiSimplex, round: Round) -> Turn
 }
 
 fn ended(simplex: VoronoiSimplex, result: GJKResult) -> Turn
-    ensures { λ r. ⌜ r ≡ endedWith simplex result ⌝ }
+    ensures { λ r. ⌜ turnBy binary32 r ≡ endedWith simplex result ⌝ }
 {
     Turn {
         simplex,
@@ -108,15 +112,18 @@ fn apart_by(exact_dist: bool, simplex: VoronoiSimplex, prev: bool, dir: Vec3) ->
 }
 
 // Whether the origin is on the boundary, so that the witnesses describe the contact.
-fn is_touching(q: Query, r: Round) -> bool
-    ensures { λ t. ⌜ t ≡ touching binary32 (searchOf binary32 q) r ⌝ }
+fn is_touching(q: Query, r: Carried) -> bool
+    ensures { λ t. ⌜ t ≡ touching binary32 (searchOf binary32 q) (roundBy binary32 r) ⌝ }
 {
-    q.exact_dist & (r.best_min_bound >= -q.eps_rel * r.support_scale)
+    if q.exact_dist {
+        return r.best_min_bound >= -q.eps_rel * number::sqrt(r.support_square);
+    }
+    false
 }
 
 // What stands before the loop.
 fn start_of(simplex: VoronoiSimplex) -> Turn
-    ensures { λ t. ⌜ t ≡ startOf binary32 simplex ⌝ }
+    ensures { λ t. ⌜ turnBy binary32 t ≡ startOf binary32 simplex ⌝ }
 {
     let found = reduction::project_origin(simplex);
     let Projected::At(proj, location) = found else {
@@ -129,12 +136,12 @@ fn start_of(simplex: VoronoiSimplex) -> Turn
         return ended(smaller, GJKResult::Intersection);
     };
     let largest = number::largest();
-    let round = Round {
+    let round = Carried {
         proj,
         old_dir: proj_dir.neg(),
         max_bound: largest,
         best_min_bound: -largest,
-        support_scale: 0.0,
+        support_square: 0.0,
         nb_perturbs: 0,
         niter: 0,
     };
@@ -142,9 +149,9 @@ fn start_of(simplex: VoronoiSimplex) -> Turn
 }
 
 // One turn of the Rust's loop. From here on the functions stand in the order of the loop's body: each ends the turn, or returns what the next makes of it.
-fn turn_of(q: Query, simplex: VoronoiSimplex, r: Round) -> Turn
+fn turn_of(q: Query, simplex: VoronoiSimplex, r: Carried) -> Turn
     requires { ⌜ r .niter < 100 ⌝ }
-    ensures { λ t. ⌜ t ≡ turnOf binary32 (searchOf binary32 q) simplex r ⌝ }
+    ensures { λ t. ⌜ turnBy binary32 t ≡ turnOf binary32 (searchOf binary32 q) simplex (roundBy binary32 r) ⌝ }
 {
     let proj = r.proj;
     let unit = proj.neg().normalize_and_length();
@@ -162,9 +169,9 @@ fn turn_of(q: Query, simplex: VoronoiSimplex, r: Round) -> Turn
 }
 
 // The upper bound does not fall: decided by the best lower bound, or `dir` is perturbed.
-fn stagnated_turn(q: Query, simplex: VoronoiSimplex, r: Round, dir: Vec3) -> Turn
+fn stagnated_turn(q: Query, simplex: VoronoiSimplex, r: Carried, dir: Vec3) -> Turn
     requires { ⌜ r .niter < 100 ⌝ }
-    ensures { λ t. ⌜ t ≡ (stagnated binary32 (searchOf binary32 q) simplex r dir ▷ probed binary32 (searchOf binary32 q)) ⌝ }
+    ensures { λ t. ⌜ turnBy binary32 t ≡ (stagnated binary32 (searchOf binary32 q) simplex (roundBy binary32 r) dir ▷ probed binary32 (searchOf binary32 q)) ⌝ }
 {
     let old_dir = r.old_dir;
     if r.best_min_bound > 0.0 {
@@ -183,9 +190,9 @@ fn stagnated_turn(q: Query, simplex: VoronoiSimplex, r: Round, dir: Vec3) -> Tur
 }
 
 // The support point of `dir`, and the bounds it gives. The Rust asserts that the lower one is finite.
-fn probed_turn(q: Query, simplex: VoronoiSimplex, r: Round, dir: Vec3) -> Turn
+fn probed_turn(q: Query, simplex: VoronoiSimplex, r: Carried, dir: Vec3) -> Turn
     requires { ⌜ r .niter < 100 ⌝ }
-    ensures { λ t. ⌜ t ≡ probed binary32 (searchOf binary32 q) simplex r dir ⌝ }
+    ensures { λ t. ⌜ turnBy binary32 t ≡ probed binary32 (searchOf binary32 q) simplex (roundBy binary32 r) dir ⌝ }
 {
     let pos12 = q.pos12;
     let g1 = q.g1;
@@ -196,23 +203,30 @@ fn probed_turn(q: Query, simplex: VoronoiSimplex, r: Round, dir: Vec3) -> Turn
     if number::is_finite(min_bound) {
         let mut next = r;
         next.best_min_bound = number::max(r.best_min_bound, min_bound);
-        next.support_scale = number::max(r.support_scale, point.length());
+        next.support_square = support_square(r.support_square, point);
         return bounded_turn(q, simplex, next, dir, min_bound, cso_point);
     }
     ended(simplex, GJKResult::Refused)
+}
+
+// The square of the support scale, with one point more: the larger of two roots is the root of the larger.
+fn support_square(kept: f32, point: Vec3) -> f32
+    ensures { λ r. ⌜ root binary32 r ≡ larger (root binary32 kept) (lengthV binary32 point) ⌝ }
+{
+    number::max(kept, point.length_squared())
 }
 
 // What the bounds decide before the new vertex is added.
 fn bounded_turn(
     q: Query,
     simplex: VoronoiSimplex,
-    r: Round,
+    r: Carried,
     dir: Vec3,
     min_bound: f32,
     cso_point: Vertex,
 ) -> Turn
     requires { ⌜ r .niter < 100 ⌝ }
-    ensures { λ t. ⌜ t ≡ (bounded binary32 (searchOf binary32 q) simplex r dir «min_bound» ▷ λ s₁ r₁ dir₁.
+    ensures { λ t. ⌜ turnBy binary32 t ≡ (bounded binary32 (searchOf binary32 q) simplex (roundBy binary32 r) dir «min_bound» ▷ λ s₁ r₁ dir₁.
         added binary32 (searchOf binary32 q) s₁ r₁ dir₁ «cso_point» ▷ λ s₂ r₂ dir₂.
         reduced binary32 (searchOf binary32 q) s₂ r₂ dir₂ «min_bound») ⌝ }
 {
@@ -233,13 +247,13 @@ fn bounded_turn(
 fn added_turn(
     q: Query,
     simplex: VoronoiSimplex,
-    r: Round,
+    r: Carried,
     dir: Vec3,
     min_bound: f32,
     cso_point: Vertex,
 ) -> Turn
     requires { ⌜ r .niter < 100 ⌝ }
-    ensures { λ t. ⌜ t ≡ (added binary32 (searchOf binary32 q) simplex r dir «cso_point» ▷ λ s₁ r₁ dir₁.
+    ensures { λ t. ⌜ turnBy binary32 t ≡ (added binary32 (searchOf binary32 q) simplex (roundBy binary32 r) dir «cso_point» ▷ λ s₁ r₁ dir₁.
         reduced binary32 (searchOf binary32 q) s₁ r₁ dir₁ «min_bound») ⌝ }
 {
     let added = simplex.add_point(cso_point);
@@ -253,8 +267,8 @@ fn added_turn(
 }
 
 // The new vertex adds nothing: decided by the best bound, or back to the top for a perturbation.
-fn stalled_turn(q: Query, simplex: VoronoiSimplex, r: Round, dir: Vec3) -> Turn
-    ensures { λ t. ⌜ t ≡ stalled binary32 (searchOf binary32 q) simplex r dir ⌝ }
+fn stalled_turn(q: Query, simplex: VoronoiSimplex, r: Carried, dir: Vec3) -> Turn
+    ensures { λ t. ⌜ turnBy binary32 t ≡ stalled binary32 (searchOf binary32 q) simplex (roundBy binary32 r) dir ⌝ }
 {
     if r.best_min_bound > 0.0 {
         return ended(simplex, apart_by(q.exact_dist, simplex, false, dir));
@@ -269,9 +283,9 @@ fn stalled_turn(q: Query, simplex: VoronoiSimplex, r: Round, dir: Vec3) -> Turn
 }
 
 // The vertex is in: the simplex is reduced, and the round is over.
-fn reduced_turn(q: Query, simplex: VoronoiSimplex, r: Round, dir: Vec3, min_bound: f32) -> Turn
+fn reduced_turn(q: Query, simplex: VoronoiSimplex, r: Carried, dir: Vec3, min_bound: f32) -> Turn
     requires { ⌜ r .niter < 100 ⌝ }
-    ensures { λ t. ⌜ t ≡ reduced binary32 (searchOf binary32 q) simplex r dir «min_bound» ⌝ }
+    ensures { λ t. ⌜ turnBy binary32 t ≡ reduced binary32 (searchOf binary32 q) simplex (roundBy binary32 r) dir «min_bound» ⌝ }
 {
     let found = reduction::project_origin(simplex);
     let Projected::At(proj, location) = found else {
@@ -297,9 +311,9 @@ fn reduced_turn(q: Query, simplex: VoronoiSimplex, r: Round, dir: Vec3, min_boun
 
 // The turns. A hundred rounds end the run, and a turn that is no round is followed by one of six
 // perturbations, so 107 turns are never spent (`proofs/Enough.antt`).
-fn run_of(q: Query, simplex: VoronoiSimplex, start: Round) -> Gjk
+fn run_of(q: Query, simplex: VoronoiSimplex, start: Carried) -> Gjk
     requires { ⌜ start .niter < 100 ⌝ }
-    ensures { λ g. ⌜ g ≡ runOf binary32 (searchOf binary32 q) 107 simplex start ⌝ }
+    ensures { λ g. ⌜ g ≡ runOf binary32 (searchOf binary32 q) 107 simplex (roundBy binary32 start) ⌝ }
 {
     let mut present = simplex;
     let mut r = start;
@@ -363,7 +377,7 @@ pub fn closest_points(
         g2,
         max_dist,
         exact_dist,
-        eps_rel: number::sqrt(number::eps_tol()),
+        eps_rel: number::eps_rel(),
     };
     let start = start_of(simplex);
     let next = start.next;

@@ -13,15 +13,15 @@ returns-2 : tie.Need-returns-2
 unfolding minkowskiRayCast after
 returns-2 c =
     let at = c .before .before .before .before in
-    let first = at .before .before .before .before in
-    both (simp (← first .before .length .ensures, ← first .is-zero .ensures, ← at .before .before .eps-tol .ensures, ← at .before .sqrt .ensures .0, ← at .start-of .ensures, at .before .before .before .if1 .left, c .before .next .given .1))
+    let first = at .before .before .before in
+    both (simp (← first .before .length .ensures, ← first .is-zero .ensures, ← at .before .eps-rel .ensures, ← at .start-of .ensures, at .before .before .if1 .left, c .before .next .given .1))
 
 returns-3 : tie.Need-returns-3
 unfolding minkowskiRayCast after
 returns-3 c =
     let at = c .before .before .before .before .before in
-    let first = at .before .before .before .before in
-    both (simp (← first .before .length .ensures, ← first .is-zero .ensures, ← at .before .before .eps-tol .ensures, ← at .before .sqrt .ensures .0, ← at .start-of .ensures, ← c .run-of .ensures, at .before .before .before .if1 .left, c .before .before .next2 .given .1))
+    let first = at .before .before .before in
+    both (simp (← first .before .length .ensures, ← first .is-zero .ensures, ← at .before .eps-rel .ensures, ← at .start-of .ensures, ← c .run-of .ensures, at .before .before .if1 .left, c .before .before .next2 .given .1))
 
 pub minkowski-ray-cast-spec : {M : Type 1} → statement M
-minkowski-ray-cast-spec = tie.close (tie.spec (λ c κs. tt) (λ c κs. tt) returns (λ c κs. tt) (λ c κs. tt) (λ c κs. tt) (λ c. search needs) (λ c. search needs) (λ c κs. tt) returns-2 returns-3)
+minkowski-ray-cast-spec = tie.close (tie.spec (λ c κs. tt) (λ c κs. tt) returns (λ c κs. tt) (λ c κs. tt) (λ c. search needs) (λ c. search needs) (λ c κs. tt) returns-2 returns-3)

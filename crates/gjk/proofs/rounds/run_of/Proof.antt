@@ -7,10 +7,12 @@ use lib.Ieee.{binary32, ofBits}
 use Rattle.vector.specs.Vector.{xV}
 use Rattle.simplex.specs.declared.voronoi_simplex.VoronoiSimplex.{VoronoiSimplex}
 use Rattle.gjk.specs.declared.rounds.GJKResult.{GJKResult}
-use Rattle.gjk.specs.declared.rounds.Round.{Round}
+use Rattle.gjk.specs.declared.rounds.Carried.{Carried}
 use Rattle.gjk.specs.declared.rounds.Next.the-variants.{Onward, Ended}
 use Rattle.gjk.specs.declared.rounds.Turn.{Turn}
-use Rattle.gjk.specs.Gjk.{Search, searchOf, turnOf, after, runOf}
+use Rattle.gjk.specs.Gjk.{Search, Round, searchOf, turnOf, after, runOf}
+use Rattle.gjk.specs.Gjk as Gjk
+use Rattle.gjk.specs.Carried.{roundBy, nextBy, turnBy}
 use Rattle.gjk.proofs.Enough.{few-after}
 use Rattle.gjk.proofs.rounds.run_of.Statement.{statement}
 use Rattle.gjk.proofs.rounds.run_of.Tie as tie
@@ -19,22 +21,23 @@ left : (i : ℕ) → i < 107 → 107 - i ≡ suc (107 - (i + 1))
 left i h = omega arith
 
 -- a turn that goes on leaves one turn less, and one that ends is the run's end
-goes-on : (k : Search) (i : ℕ) (s : VoronoiSimplex) (r q : Round) (t : Turn) → i < 107 → t ≡ turnOf binary32 k s r → t .next ≡ Onward q → runOf binary32 k (107 - (i + 1)) (t .simplex) q ≡ runOf binary32 k (107 - i) s r
-unfolding runOf after
+goes-on : (k : Search) (i : ℕ) (s : VoronoiSimplex) (r : Round) (q : Carried) (t : Turn) → i < 107 → turnBy binary32 t ≡ turnOf binary32 k s r → t .next ≡ Onward q → runOf binary32 k (107 - (i + 1)) (t .simplex) (roundBy binary32 q) ≡ runOf binary32 k (107 - i) s r
+unfolding runOf after turnBy nextBy
 goes-on k i s r q t h e d = rw (left i h, ← e, d)
 
-ends : (k : Search) (i : ℕ) (s : VoronoiSimplex) (r : Round) (t : Turn) (x : GJKResult) → i < 107 → t ≡ turnOf binary32 k s r → t .next ≡ Ended x → record { simplex = t .simplex; result = x } ≡ runOf binary32 k (107 - i) s r
-unfolding runOf after
+ends : (k : Search) (i : ℕ) (s : VoronoiSimplex) (r : Round) (t : Turn) (x : GJKResult) → i < 107 → turnBy binary32 t ≡ turnOf binary32 k s r → t .next ≡ Ended x → record { simplex = t .simplex; result = x } ≡ runOf binary32 k (107 - i) s r
+unfolding runOf after turnBy nextBy
 ends k i s r t x h e d = rw (left i h, ← e, d)
 
-still-few : (k : Search) (s : VoronoiSimplex) (r q : Round) (t : Turn) → r .niter < 100 → t ≡ turnOf binary32 k s r → t .next ≡ Onward q → q .niter < 100
-still-few k s r q t w e d = few-after binary32 k s r q w (ap (λ (x : Turn). x .next) (sym e) ∙ d)
+still-few : (k : Search) (s : VoronoiSimplex) (r : Round) (q : Carried) (t : Turn) → r .niter < 100 → turnBy binary32 t ≡ turnOf binary32 k s r → t .next ≡ Onward q → q .niter < 100
+unfolding turnBy nextBy
+still-few k s r q t w e d = few-after binary32 k s r (roundBy binary32 q) w (ap (λ (x : Gjk.Turn). x .next) (sym e) ∙ ap (nextBy binary32) d)
 
 spent : (k : Search) (i : ℕ) (s : VoronoiSimplex) (r : Round) → 107 ≤ i → runOf binary32 k (107 - i) s r ≡ runOf binary32 k 0 s r
 spent k i s r h = let z : 107 - i ≡ 0 = omega arith in rw z
 
 abbrev Inv-loop : tie.InvT-loop
-Inv-loop q present₀ r₀ i₀ present r i = (i ≤ 107) × (r .niter < 100) × (runOf binary32 (searchOf binary32 q) (107 - i) present r ≡ runOf binary32 (searchOf binary32 q) 107 present₀ r₀)
+Inv-loop q present₀ r₀ i₀ present r i = (i ≤ 107) × (r .niter < 100) × (runOf binary32 (searchOf binary32 q) (107 - i) present (roundBy binary32 r) ≡ runOf binary32 (searchOf binary32 q) 107 present₀ (roundBy binary32 r₀))
 
 abbrev μ-loop : tie.MeasureT-loop
 μ-loop q present₀ r₀ i₀ present r i = 107 - i
