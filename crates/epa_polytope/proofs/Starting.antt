@@ -6,11 +6,15 @@ use mathlib.Core.Option.{Option, none, some}
 use Prim.Native.Nat.{ℕ, suc, _+_, _-_, _<_, _≤_}
 use native.Mathlib.Omega.{arith}
 use native.Mathlib.Numerals.{add-one}
-use lib.Dec.{leb}
-use lib.Ieee.{Float, Format}
+use lib.Dec.{T, leb}
+use lib.Ieee.{Float, Format, fits}
+use lib.Ieee.Fits.{add-fits}
 use borrow.Author.Tests.{leb-true}
+use Rattle.number.specs.Root.{root}
 use Rattle.number.specs.Small.{larger}
-use Rattle.vector.specs.Vector.{yV, lengthV}
+use Rattle.number.proofs.Monotone.{larger-root, larger-fits}
+use Rattle.vector.specs.declared.vec3.Vec3.{Vec3}
+use Rattle.vector.specs.Vector.{zeroF, yV, dotV, lengthSquaredV, lengthV}
 use Rattle.shape.specs.declared.vertex.Vertex.{Vertex}
 use Rattle.simplex.specs.declared.voronoi_simplex.VoronoiSimplex.{VoronoiSimplex}
 use Rattle.simplex.specs.Simplex.{isSimplex, vertexAt as cornerOf}
@@ -98,9 +102,31 @@ module _ (w : World) (l : Lists) (c : Tally) {v : Vertex} {m : MaybeVertex} (is 
       by none q = absurd (unlike (sym q))
       by (some u) q = let same : y ≡ u = cc in rw (← same) (g .same)
 
--- ---- the tolerance: a vertex more, which is v
+-- ---- the tolerance: the largest length is the root of the largest square, so one root is taken of all. A vertex more, which is v
 
-pub scale-grown : (f : Format) (l : List Float) (i : ℕ) {v : Vertex} {length scale grown : Float} → v ≡ vertexAt l i → length ≡ lengthV f (v .point) → scale ≡ scaleOf f l i → grown ≡ larger scale length
-    → grown ≡ scaleOf f l (i + 1)
+-- the root of the largest square of the first i vertices is their scale; that the square is a value of the format is what `larger-root` asks
+pub record ScaleLoop (f : Format) (l : List Float) (i : ℕ) (square : Float) : Type 0 where
+  pub held : T (fits f square)
+  pub scale : root f square ≡ scaleOf f l i
+
+pub scale-start : (f : Format) (l : List Float) → ScaleLoop f l 0 zeroF
+unfolding scaleOf root fits
+scale-start f l = record { held = tt; scale = refl }
+
+square-fits : (f : Format) (p : Vec3) → T (fits f (lengthSquaredV f p))
+unfolding lengthSquaredV dotV
+square-fits f p = add-fits f _ _
+
+larger-length : (f : Format) (q : Float) (p : Vec3) → T (fits f q) → root f (larger q (lengthSquaredV f p)) ≡ larger (root f q) (lengthV f p)
+unfolding lengthV
+larger-length f q p h = sym (larger-root f q (lengthSquaredV f p) h (square-fits f p))
+
+pub scale-grown : (f : Format) (l : List Float) (i : ℕ) {v : Vertex} {square greatest grown : Float} → v ≡ vertexAt l i → square ≡ lengthSquaredV f (v .point) → ScaleLoop f l i greatest → grown ≡ larger greatest square
+    → ScaleLoop f l (i + 1) grown
 unfolding scaleOf
-scale-grown f l i is isLength isScale isGrown = simp (add-one, isGrown, isScale, isLength, is)
+scale-grown f l i {v} {square} {greatest} is isSquare h isGrown =
+    let p = vertexAt l i .point in
+    rw (isGrown, isSquare, is) record {
+      held = larger-fits f greatest (lengthSquaredV f p) (h .held) (square-fits f p);
+      scale = simp (add-one, larger-length f greatest p (h .held), h .scale);
+    }

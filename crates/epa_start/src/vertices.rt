@@ -123,14 +123,15 @@ pub fn start_vertices(
 fn scale_of(vertices: &[f32], n: usize) -> f32
     ensures { λ r. ⌜ r ≡ scaleOf binary32 (now (vertices .entry)) n ⌝ }
 {
-    let mut scale = 0.0;
+    // a root keeps the order, so the greatest length is the root of the greatest square: one root for all vertices
+    let mut greatest = 0.0;
     let mut i = 0;
     while i < n {
-        let length = vertex_at(vertices, i).point.length();
-        scale = number::max(scale, length);
+        let square = vertex_at(vertices, i).point.length_squared();
+        greatest = number::max(greatest, square);
         i += 1;
     }
-    scale
+    number::sqrt(greatest)
 }
 
 // The tolerance of the keys.
