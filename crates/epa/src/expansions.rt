@@ -4,7 +4,7 @@ ghost use lib.ListN.{getD};
 ghost use lib.Ieee.{binary32};
 ghost use Rattle.epa_polytope.specs.Stores.{stateOf, withDeleted, withHeap};
 ghost use Rattle.epa_polytope.specs.Run.{popLive, iterate, expansions};
-ghost use Rattle.epa_polytope.specs.Contracts.{Gives, visitOut, finishOut, lentAll, when, singleBy};
+ghost use Rattle.epa_polytope.specs.Contracts.{Gives, visitOut, finishOut, lentAll, when, singleBy, walkOf};
 ghost use Rattle.epa.specs.Final.{listsOf};
 ghost use Rattle.epa_polytope.specs.Code.{popOut, Early, completedOf, HeapWithin, CanExpand, firstBest, Started};
 use epa_expansion::visit;
@@ -17,7 +17,6 @@ use epa_polytope::MaybeFaceId;
 use epa_polytope::Popped;
 use epa_polytope::Tally;
 use epa_polytope::Visited;
-use epa_polytope::Walk;
 use epa_stores::deleted_at;
 use shape::Shape;
 use vector::Pose;
@@ -76,7 +75,7 @@ fn iterate(
     heap_keys: &mut [f32],
     pending: &mut [usize],
     tally: Tally,
-    walk: Walk,
+    plain: bool,
     pos12: Pose,
     g1: Shape,
     g2: Shape,
@@ -84,7 +83,7 @@ fn iterate(
     best: Best,
 ) -> Visited
     requires { ⌜ CanExpand tally (now «heap_ids») (now «heap_keys») ⌝ }
-    ensures { λ r. ⌜ Gives visitOut (iterate (singleBy walk pos12 g1 g2) tol best) tally r (λ m. lentAll m vertices ids floats deleted edges «heap_ids» «heap_keys» pending) ⌝ }
+    ensures { λ r. ⌜ Gives visitOut (iterate (singleBy (walkOf plain) pos12 g1 g2) tol best) tally r (λ m. lentAll m vertices ids floats deleted edges «heap_ids» «heap_keys» pending) ⌝ }
 {
     let popped = pop_live(deleted, heap_ids, heap_keys, tally);
     let entry = popped.entry;
@@ -103,7 +102,7 @@ fn iterate(
         heap_keys,
         pending,
         next,
-        walk,
+        plain,
         pos12,
         g1,
         g2,
@@ -143,15 +142,15 @@ pub(crate) fn expansions(
     heap_keys: &mut [f32],
     pending: &mut [usize],
     start: Tally,
-    walk: Walk,
+    plain: bool,
     pos12: Pose,
     g1: Shape,
     g2: Shape,
     tol: f32,
 ) -> Finish
-    requires { ⌜ Started (singleBy walk pos12 g1 g2) tol
+    requires { ⌜ Started (singleBy (walkOf plain) pos12 g1 g2) tol
         (stateOf (listsOf (now vertices) (now ids) (now floats) (now deleted) (now edges) (now «heap_ids») (now «heap_keys») (now pending)) start) ⌝ }
-    ensures { λ r. ⌜ Gives finishOut (expansions (singleBy walk pos12 g1 g2) tol) start r (λ m. lentAll m vertices ids floats deleted edges «heap_ids» «heap_keys» pending) ⌝ }
+    ensures { λ r. ⌜ Gives finishOut (expansions (singleBy (walkOf plain) pos12 g1 g2) tol) start r (λ m. lentAll m vertices ids floats deleted edges «heap_ids» «heap_keys» pending) ⌝ }
 {
     let mut tally = start;
     let mut best = first_best(heap_ids);
@@ -167,7 +166,7 @@ pub(crate) fn expansions(
             heap_keys,
             pending,
             tally,
-            walk,
+            plain,
             pos12,
             g1,
             g2,

@@ -6,7 +6,7 @@ ghost use lib.Ieee.{binary32};
 ghost use Rattle.number.specs.Told.{Told};
 ghost use Rattle.epa_polytope.specs.Stores.{noneYet};
 ghost use Rattle.epa_polytope.specs.Run.{epa};
-ghost use Rattle.epa_polytope.specs.Contracts.{Gives, finishOut, lentAll, singleBy, called};
+ghost use Rattle.epa_polytope.specs.Contracts.{Gives, finishOut, lentAll, singleBy, walkOf, called};
 ghost use Rattle.epa_polytope.specs.declared.types.Walk.the-variants.{Recursive as recursive, Plain as plain};
 ghost use Rattle.epa.specs.Final.{fourLent, allLent, Ends, penetration, answerAt, countsAt, answerNumber, answerValues};
 
@@ -16,7 +16,6 @@ mod types;
 use epa_polytope::Begun;
 use epa_polytope::Finish;
 use epa_polytope::Tally;
-use epa_polytope::Walk;
 use epa_start::begin;
 use epa_stores::live_to;
 use expansions::expansions;
@@ -36,13 +35,13 @@ fn run(
     heap_ids: &mut [usize],
     heap_keys: &mut [f32],
     pending: &mut [usize],
-    walk: Walk,
+    plain: bool,
     pos12: Pose,
     g1: Shape,
     g2: Shape,
     simplex: VoronoiSimplex,
 ) -> Finish
-    ensures { λ r. ⌜ Gives finishOut (epa (singleBy walk pos12 g1 g2) simplex) noneYet r (λ m. lentAll m vertices ids floats deleted edges «heap_ids» «heap_keys» pending) ⌝ }
+    ensures { λ r. ⌜ Gives finishOut (epa (singleBy (walkOf plain) pos12 g1 g2) simplex) noneYet r (λ m. lentAll m vertices ids floats deleted edges «heap_ids» «heap_keys» pending) ⌝ }
 {
     let begun = begin(
         vertices,
@@ -68,7 +67,7 @@ fn run(
             heap_keys,
             pending,
             tally,
-            walk,
+            plain,
             pos12,
             g1,
             g2,
@@ -127,7 +126,7 @@ pub fn closest_points(
         heap_ids,
         heap_keys,
         &mut none,
-        Walk::Recursive,
+        false,
         pos12,
         g1,
         g2,
@@ -164,7 +163,7 @@ pub fn closest_points_plain(
         heap_ids,
         heap_keys,
         pending,
-        Walk::Plain,
+        true,
         pos12,
         g1,
         g2,

@@ -5,7 +5,7 @@ ghost use Rattle.epa_polytope.specs.Stores.{withVertices, withFaceIds, withFace
 ghost use Rattle.epa_polytope.specs.Silhouette.{recordedOf};
 ghost use Rattle.epa_polytope.specs.Code.{finishedOf};
 ghost use Rattle.epa_polytope.specs.Expansion.{passedTally, silhouette, expand};
-ghost use Rattle.epa_polytope.specs.Contracts.{Leaves, lentAll, when, single};
+ghost use Rattle.epa_polytope.specs.Contracts.{Leaves, lentAll, when, single, walkOf};
 use crate::ring::regrow;
 use epa_faces::facing_at;
 use epa_plain_walk::pass_by;
@@ -15,7 +15,6 @@ use epa_polytope::PlainSoFar;
 use epa_polytope::Step;
 use epa_polytope::Store;
 use epa_polytope::Tally;
-use epa_polytope::Walk;
 use epa_polytope::WalkAnswer;
 use epa_stores::set_deleted;
 
@@ -67,11 +66,11 @@ fn silhouette(
     edges: &mut [usize],
     pending: &mut [usize],
     tally: Tally,
-    walk: Walk,
+    plain: bool,
     point: usize,
     face: usize,
 ) -> Step
-    ensures { λ r. ⌜ Leaves (silhouette walk single point face) tally r
+    ensures { λ r. ⌜ Leaves (silhouette (walkOf plain) single point face) tally r
         (λ m k. withVertices (when m vertices) (withFaceIds (when m ids)
         (withFaceFloats (when m floats) (withDeleted (when m deleted) (withEdges (when m edges) (withPending (when m pending) k)))))) ⌝ }
 {
@@ -86,7 +85,7 @@ fn silhouette(
         deleted,
         edges,
         pending,
-        walk,
+        plain,
         point,
         c.missed,
         a.question,
@@ -107,10 +106,10 @@ pub fn expand(
     heap_keys: &mut [f32],
     pending: &mut [usize],
     tally: Tally,
-    walk: Walk,
+    plain: bool,
     expansion: Expansion,
 ) -> Step
-    ensures { λ r. ⌜ Leaves (expand walk single expansion) tally r (λ m. lentAll m vertices ids floats deleted edges «heap_ids» «heap_keys» pending) ⌝ }
+    ensures { λ r. ⌜ Leaves (expand (walkOf plain) single expansion) tally r (λ m. lentAll m vertices ids floats deleted edges «heap_ids» «heap_keys» pending) ⌝ }
 {
     let face = expansion.face;
     let point = expansion.point;
@@ -123,7 +122,7 @@ pub fn expand(
         edges,
         pending,
         tally,
-        walk,
+        plain,
         point,
         face,
     );

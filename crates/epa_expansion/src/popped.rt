@@ -5,7 +5,7 @@ ghost use lib.Ieee.{binary32};
 ghost use Rattle.vector.specs.declared.vec3.Vec3.{Vec3};
 ghost use Rattle.shape.specs.declared.vertex.Vertex.{Vertex};
 ghost use Rattle.epa_polytope.specs.Run.{bettered, hasConverged, isStuck, settle, visit};
-ghost use Rattle.epa_polytope.specs.Contracts.{Gives, visitOut, entryOf, lentAll, single, singleBy};
+ghost use Rattle.epa_polytope.specs.Contracts.{Gives, visitOut, entryOf, lentAll, single, singleBy, walkOf};
 use crate::expansion::expand;
 use epa_faces::answer_of;
 use epa_polytope::Best;
@@ -15,7 +15,6 @@ use epa_polytope::Found;
 use epa_polytope::Step;
 use epa_polytope::Tally;
 use epa_polytope::Visited;
-use epa_polytope::Walk;
 use epa_pushes::push_vertex;
 use epa_stores::normal_of;
 use shape::Shape;
@@ -62,14 +61,14 @@ fn settle(
     heap_keys: &mut [f32],
     pending: &mut [usize],
     tally: Tally,
-    walk: Walk,
+    plain: bool,
     tol: f32,
     best: Best,
     face_id: FaceId,
     point: usize,
     candidate: f32,
 ) -> Visited
-    ensures { λ r. ⌜ ((supp : Vec3 → Vertex) → Gives visitOut (settle (record { numbers = single; supp = supp; walkBy = walk }) tol best (entryOf «face_id») point candidate) tally r
+    ensures { λ r. ⌜ ((supp : Vec3 → Vertex) → Gives visitOut (settle (record { numbers = single; supp = supp; walkBy = walkOf plain }) tol best (entryOf «face_id») point candidate) tally r
         (λ m. lentAll m vertices ids floats deleted edges «heap_ids» «heap_keys» pending)) ⌝ }
 {
     let face = face_id.id;
@@ -99,7 +98,7 @@ fn settle(
         heap_keys,
         pending,
         tally,
-        walk,
+        plain,
         expansion,
     );
     match expanded {
@@ -126,7 +125,7 @@ pub fn visit(
     heap_keys: &mut [f32],
     pending: &mut [usize],
     tally: Tally,
-    walk: Walk,
+    plain: bool,
     pos12: Pose,
     g1: Shape,
     g2: Shape,
@@ -134,7 +133,7 @@ pub fn visit(
     best: Best,
     face_id: FaceId,
 ) -> Visited
-    ensures { λ r. ⌜ Gives visitOut (visit (singleBy walk pos12 g1 g2) tol best (entryOf «face_id»)) tally r
+    ensures { λ r. ⌜ Gives visitOut (visit (singleBy (walkOf plain) pos12 g1 g2) tol best (entryOf «face_id»)) tally r
         (λ m. lentAll m vertices ids floats deleted edges «heap_ids» «heap_keys» pending) ⌝ }
 {
     let normal = normal_of(floats, face_id.id);
@@ -155,7 +154,7 @@ pub fn visit(
                 heap_keys,
                 pending,
                 next,
-                walk,
+                plain,
                 tol,
                 best,
                 face_id,

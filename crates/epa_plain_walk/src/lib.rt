@@ -8,12 +8,11 @@ ghost use Rattle.epa_polytope.specs.Stores.{withVertices, withFaceIds, withFace
 ghost use Rattle.epa_polytope.specs.Silhouette.{walked};
 ghost use Rattle.epa_polytope.specs.PlainWalk.{walking, walkingBy, putIn, questionAt, without, answerQuestion, turn, plainWalk, plainPass};
 ghost use Rattle.epa_polytope.specs.Expansion.{meshOf, passBy};
-ghost use Rattle.epa_polytope.specs.Contracts.{Reads, single};
+ghost use Rattle.epa_polytope.specs.Contracts.{Reads, single, walkOf};
 use epa_faces::can_be_seen_by;
 use epa_faces::facing_at;
 use epa_polytope::PlainSoFar;
 use epa_polytope::Question;
-use epa_polytope::Walk;
 use epa_polytope::WalkAnswer;
 use epa_silhouette::note;
 use epa_silhouette::pass;
@@ -244,7 +243,8 @@ pub fn plain_pass(
 
 // ---- by either walk
 
-// The recursive walk holds no question.
+// The recursive walk holds no question. Which walk is a `bool` and not an enum, since LLVM sees the value of a `bool`
+// through the calls: a program has only the walk that it asks for.
 pub fn pass_by(
     vertices: &[f32],
     ids: &[usize],
@@ -252,41 +252,20 @@ pub fn pass_by(
     deleted: &mut [u8],
     edges: &mut [usize],
     pending: &mut [usize],
-    walk: Walk,
+    plain: bool,
     point: usize,
     missed: usize,
     a: Question,
     b: Question,
     c: Question,
 ) -> PlainSoFar
-    ensures { λ r. ⌜ Reads (λ l. passBy walk (meshOf single l point)
+    ensures { λ r. ⌜ Reads (λ l. passBy (walkOf plain) (meshOf single l point)
         (walking (walked (now (deleted .entry)) (now (edges .entry)) missed (WalkAnswer.Done 0)) (now (pending .entry)) 0 false) a b c)
         (walkingBy (now (deleted .exit)) (now (edges .exit)) (now (pending .exit)) r)
         (λ k. withVertices (now (vertices .entry)) (withFaceIds (now (ids .entry)) (withFaceFloats (now (floats .entry)) k))) ⌝ }
 {
-    match walk {
-        Walk::Recursive => {
-            let walked = pass(
-                vertices,
-                ids,
-                floats,
-                deleted,
-                edges,
-                point,
-                missed,
-                a,
-                b,
-                c,
-            );
-            let answer = walked.answer;
-            PlainSoFar {
-                answer,
-                missed: walked.missed,
-                held: 0,
-                short: false,
-            }
-        }
-        Walk::Plain => plain_pass(
+    if plain {
+        return plain_pass(
             vertices,
             ids,
             floats,
@@ -298,6 +277,25 @@ pub fn pass_by(
             a,
             b,
             c,
-        ),
+        );
+    }
+    let walked = pass(
+        vertices,
+        ids,
+        floats,
+        deleted,
+        edges,
+        point,
+        missed,
+        a,
+        b,
+        c,
+    );
+    let answer = walked.answer;
+    PlainSoFar {
+        answer,
+        missed: walked.missed,
+        held: 0,
+        short: false,
     }
 }

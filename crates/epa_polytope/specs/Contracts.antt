@@ -1,5 +1,6 @@
 -- The one form of the contracts: what a function leaves and answers is what a step of the run does. Definitions only.
 -- A function that is lent some of the lists does so whatever the others hold: its contract is for all k : Lists, of k with the lent lists in their places.
+use mathlib.Core.Bool.{Bool, true, false}
 use mathlib.Core.Path.{_≡_}
 use mathlib.Core.List.{List}
 use denote.Ref.{RefT}
@@ -19,7 +20,7 @@ use Rattle.epa_polytope.specs.declared.types.Finish.{Finish}
 use Rattle.epa_polytope.specs.declared.types.FaceId.{FaceId}
 use Rattle.epa_polytope.specs.Stores.{Lists, Tally, stateOf, withPending, lend}
 use Rattle.epa_polytope.specs.Steps.{Numbers, numbersOf, Out, onward, ended, Act, Nil, Over}
-use Rattle.epa_polytope.specs.Start.{Walk, World, worldOf, walkedAs}
+use Rattle.epa_polytope.specs.Start.{Walk, recursive, plain, World, worldOf, walkedAs}
 use Rattle.epa_polytope.specs.Run.{Best}
 
 -- the numbers of the code
@@ -32,6 +33,11 @@ singleWorld = worldOf binary32
 
 abbrev pub singleBy : Walk → Pose → Shape → Shape → World
 singleBy y m g1 g2 = walkedAs y (singleWorld m g1 g2)
+
+-- the walk that the code asks for by a bool: whether it is the plain one
+abbrev pub walkOf : Bool → Walk
+walkOf true = plain
+walkOf false = recursive
 
 -- ---- what a function does
 

@@ -42,7 +42,8 @@ pub struct PlainSoFar {
     pub short: bool,
 }
 
-// Which walk a run uses: the Rust's own, or the one without recursion.
+// Which walk a run uses: the Rust's own, or the one without recursion. The definitions have it; the code has a `bool`
+// for it, and `pass_by` of epa_plain_walk says why.
 pub enum Walk {
     Recursive,
     Plain,

@@ -4,7 +4,7 @@ use borrow.Author.Needs.{needs}
 use mathlib.Core.Path.{_≡_, refl, _∙_}
 use mathlib.Core.List.{[]}
 use lib.ListN.{length}
-use Rattle.epa_polytope.specs.Contracts.{single, singleBy}
+use Rattle.epa_polytope.specs.Contracts.{single, singleBy, walkOf}
 use Rattle.epa_polytope.specs.Steps.{answerOf}
 use Rattle.epa_polytope.specs.declared.types.Found.the-variants.{EnoughExpansions}
 use Rattle.epa_polytope.proofs.Doing.{read-here, place}
@@ -14,8 +14,8 @@ use Rattle.epa.proofs.expansions.expansions.Statement.{statement}
 use Rattle.epa.proofs.expansions.expansions.Tie as tie
 
 abbrev Inv-loop : tie.InvT-loop
-Inv-loop vertices₀ ids₀ floats₀ deleted₀ edges₀ heap-ids₀ heap-keys₀ pending₀ walk pos12 g1 g2 tol tally₀ best₀ left₀ vertices ids floats deleted edges heap-ids heap-keys pending tally best left = record {
-  loop : ExpandLoop (singleBy walk pos12 g1 g2) tol (listsOf vertices₀ ids₀ floats₀ deleted₀ edges₀ heap-ids₀ heap-keys₀ pending₀) tally₀ (listsOf vertices ids floats deleted edges heap-ids heap-keys pending) tally best left;
+Inv-loop vertices₀ ids₀ floats₀ deleted₀ edges₀ heap-ids₀ heap-keys₀ pending₀ plain pos12 g1 g2 tol tally₀ best₀ left₀ vertices ids floats deleted edges heap-ids heap-keys pending tally best left = record {
+  loop : ExpandLoop (singleBy (walkOf plain) pos12 g1 g2) tol (listsOf vertices₀ ids₀ floats₀ deleted₀ edges₀ heap-ids₀ heap-keys₀ pending₀) tally₀ (listsOf vertices ids floats deleted edges heap-ids heap-keys pending) tally best left;
   vertices : length vertices ≡ length vertices₀;
   ids : length ids ≡ length ids₀;
   floats : length floats ≡ length floats₀;
@@ -27,7 +27,7 @@ Inv-loop vertices₀ ids₀ floats₀ deleted₀ edges₀ heap-ids₀ heap-keys�
 }
 
 abbrev μ-loop : tie.MeasureT-loop
-μ-loop vertices₀ ids₀ floats₀ deleted₀ edges₀ heap-ids₀ heap-keys₀ pending₀ walk pos12 g1 g2 tol tally₀ best₀ left₀ vertices ids floats deleted edges heap-ids heap-keys pending tally best left = left
+μ-loop vertices₀ ids₀ floats₀ deleted₀ edges₀ heap-ids₀ heap-keys₀ pending₀ plain pos12 g1 g2 tol tally₀ best₀ left₀ vertices ids floats deleted edges heap-ids heap-keys pending tally best left = left
 
 abbrev Begins : Type 0
 Begins = tie.Start Inv-loop μ-loop

@@ -3,7 +3,7 @@ use borrow.Author.Needs.{needs}
 use mathlib.Core.Path.{refl, _∙_}
 use mathlib.Core.List.{[]}
 use Rattle.epa_polytope.specs.Stores.{Lists}
-use Rattle.epa_polytope.specs.Contracts.{single, singleBy}
+use Rattle.epa_polytope.specs.Contracts.{single, singleBy, walkOf}
 use Rattle.epa_polytope.specs.Steps.{answerOf}
 use Rattle.epa_polytope.specs.declared.types.Found.the-variants.{HeapEmpty}
 use Rattle.epa_polytope.proofs.Doing.{here, read-here, place}
@@ -29,7 +29,7 @@ start c = search
 visited : (c : tie.After-visit) → Lists → Early (c .visit .result)
 visited c k =
     let a = start (popped c) .args in
-    visited-early (singleBy (a .walk) (a .pos12) (a .g1) (a .g2)) (a .tol) (a .best) (here (popped c .pop-live .ensures) _ refl) (start (popped c) .pre .early)
+    visited-early (singleBy (walkOf (a .plain)) (a .pos12) (a .g1) (a .g2)) (a .tol) (a .best) (here (popped c .pop-live .ensures) _ refl) (start (popped c) .pre .early)
     (place tie.After-entry (search) .entry .given .1) (c .visit .ensures k)
 
 completed-requires : tie.Need-completed-requires
