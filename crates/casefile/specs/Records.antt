@@ -2,7 +2,8 @@
 -- A record is shape kind (0 ball, 1 cuboid, 2 capsule, 3 triangle) and its 1, 3, 7 or 9 numbers; the same for the second; quaternion; translation; start
 -- direction; largest distance; exact flag 0 or 1. Floats travel as their bits: of a NaN the word tells more than the float, so a record is read as words,
 -- and the floats are made of them, in a format f. A word has at most five groups, as document 01 has it, whatever f is.
-use Prim.Native.Nat.{ℕ, zero, suc, _+_}
+use Prim.Native.Nat.{ℕ, zero, suc, _+_, _<_}
+use mathlib.Core.Path.{_≡_}
 use mathlib.Core.Bool.{Bool, cond}
 use mathlib.Core.List.{List, [], _∷_, _++_}
 use lib.ListN.{length, getD}
@@ -132,23 +133,15 @@ module _ (f : Format) where
         exact = eqb (w .flag) 1;
       }
 
-  -- ---- for the private functions: some words read, and what they stand for
-
-  unfoldable pub floatAt : List ℕ → Reading → Got Float
-  floatAt s r = let n = numbersAt 1 s r in got (floatOf (n .value) 0) (n .reading)
-
-  unfoldable pub vectorAt : List ℕ → Reading → Got Vec3
-  vectorAt s r = let n = numbersAt 3 s r in got (vectorOf (n .value) 0) (n .reading)
-
-  -- a shape of the kind k
-  unfoldable pub kindAt : ℕ → List ℕ → Reading → Got Shape
-  kindAt k s r = let n = numbersAt (sizeOf k) s r in got (shapeIn k (n .value)) (n .reading)
+  -- ---- for the private functions
 
   unfoldable pub shapeAt : List ℕ → Reading → Got Shape
   shapeAt s r = let w = shapeWordsAt s r in got (shapeOf (w .value)) (w .reading)
 
-  unfoldable pub poseAt : List ℕ → Reading → Got Pose
-  poseAt s r = let n = numbersAt 7 s r in got (poseOf (n .value)) (n .reading)
+-- the first `count` of the words are the numbers that were read, and reading stands where they end
+pub record Holds (count : ℕ) (words : List ℕ) (reading : Reading) (n : Got (List ℕ)) : Type 0 where
+  pub told : reading ≡ n .reading
+  pub same : (i : ℕ) → i < count → getD words i 0 ≡ getD (n .value) i 0
 
 -- ---- the record that starts at a place
 

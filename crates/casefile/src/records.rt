@@ -1,9 +1,10 @@
 // Records of a case file: a record's numbers are read one after the other, and what is refused first stays refused,
 // so that each step takes where the one before it stands.
 ghost use mathlib.Core.Path.{_≡_};
+ghost use Prim.Native.Nat.{_≤_};
 ghost use lib.Ieee.{binary32};
 ghost use Rattle.number.specs.Told.{Told};
-ghost use Rattle.casefile.specs.Records.{got, numberAt, spoiled as spoiledOf, smallAt, floatAt, vectorAt, kindAt, shapeAt, poseAt, readCase, caseNumber, caseValue};
+ghost use Rattle.casefile.specs.Records.{got, numberAt, spoiled as spoiledOf, smallAt, numbersAt, Holds, floatOf, vectorOf, sizeOf, shapeIn, poseOf, shapeAt, readCase, caseNumber, caseValue};
 use crate::numbers;
 use crate::numbers::NumberAnswer;
 use shape::Shape;
@@ -47,23 +48,14 @@ pub struct GotNumber {
     pub reading: Reading,
 }
 
-pub struct GotFloat {
-    pub value: f32,
-    pub reading: Reading,
-}
-
-pub struct GotVector {
-    pub value: Vec3,
+// Numbers that are read together: at most eleven, in the first places.
+pub struct GotNumbers {
+    pub words: [u32; 11],
     pub reading: Reading,
 }
 
 pub struct GotShape {
     pub value: Shape,
-    pub reading: Reading,
-}
-
-pub struct GotPose {
-    pub value: Pose,
     pub reading: Reading,
 }
 
@@ -126,137 +118,140 @@ fn small_at(bytes: &[u8], top: u32, reading: Reading) -> GotNumber
     }
 }
 
-// ---- floats
-
-fn float_at(bytes: &[u8], reading: Reading) -> GotFloat
-    ensures { λ r. ⌜ got (r .value) (r .reading) ≡ floatAt binary32 (now (bytes .entry)) reading ⌝ }
+// The `count` numbers from the place `start` on. The loop carries the place of the next one, and not a `Reading`, which
+// would go through memory at every turn.
+fn numbers_from(bytes: &[u8], start: usize, count: usize) -> GotNumbers
+    requires { ⌜ count ≤ 11 ⌝ }
+    ensures { λ r. ⌜ Holds count (r .words) (r .reading) (numbersAt count (now (bytes .entry)) (Reading.At start)) ⌝ }
 {
-    let number = number_at(bytes, reading);
-    let after = number.reading;
-    GotFloat {
-        value: number::from_bits(number.value),
-        reading: after,
+    let mut words = [0u32; 11];
+    let mut place = start;
+    let mut i: usize = 0;
+    while i < count {
+        let answer = numbers::read_number(bytes, place);
+        match answer {
+            NumberAnswer::Read { value, next } => {
+                words[i] = value;
+                place = next;
+            }
+            NumberAnswer::Bad => {
+                return GotNumbers {
+                    words,
+                    reading: Reading::Bad(place),
+                };
+            }
+            NumberAnswer::Ended => {
+                return GotNumbers {
+                    words,
+                    reading: Reading::Ended,
+                };
+            }
+        }
+        i += 1;
+    }
+    GotNumbers {
+        words,
+        reading: Reading::At(place),
     }
 }
 
-fn vector_at(bytes: &[u8], reading: Reading) -> GotVector
-    ensures { λ r. ⌜ got (r .value) (r .reading) ≡ vectorAt binary32 (now (bytes .entry)) reading ⌝ }
+// The next `count` numbers.
+fn numbers_at(bytes: &[u8], reading: Reading, count: usize) -> GotNumbers
+    requires { ⌜ count ≤ 11 ⌝ }
+    ensures { λ r. ⌜ Holds count (r .words) (r .reading) (numbersAt count (now (bytes .entry)) reading) ⌝ }
 {
-    let x = float_at(bytes, reading);
-    let after_x = x.reading;
-    let y = float_at(bytes, after_x);
-    let after_y = y.reading;
-    let z = float_at(bytes, after_y);
-    let after = z.reading;
-    GotVector {
-        value: Vec3::new(x.value, y.value, z.value),
-        reading: after,
+    match reading {
+        Reading::At(start) => numbers_from(bytes, start, count),
+        Reading::Bad(at) => GotNumbers {
+            words: [0u32; 11],
+            reading: Reading::Bad(at),
+        },
+        Reading::Ended => GotNumbers {
+            words: [0u32; 11],
+            reading: Reading::Ended,
+        },
     }
 }
 
-// ---- shapes
+// ---- what words stand for
 
-fn ball_at(bytes: &[u8], reading: Reading) -> GotShape
-    ensures { λ r. ⌜ got (r .value) (r .reading) ≡ kindAt binary32 0 (now (bytes .entry)) reading ⌝ }
+fn float_of(words: [u32; 11], i: usize) -> f32
+    requires { ⌜ i ≤ 10 ⌝ }
+    ensures { λ r. ⌜ r ≡ floatOf binary32 words i ⌝ }
 {
-    let radius = float_at(bytes, reading);
-    let after = radius.reading;
-    GotShape {
-        value: Shape::Ball(radius.value),
-        reading: after,
+    number::from_bits(words[i])
+}
+
+fn vector_of(words: [u32; 11], i: usize) -> Vec3
+    requires { ⌜ i ≤ 8 ⌝ }
+    ensures { λ r. ⌜ r ≡ vectorOf binary32 words i ⌝ }
+{
+    let x = float_of(words, i);
+    let y = float_of(words, i + 1);
+    let z = float_of(words, i + 2);
+    Vec3::new(x, y, z)
+}
+
+// How many numbers a shape has.
+fn size_of(kind: u32) -> usize
+    ensures { λ r. ⌜ r ≡ sizeOf kind ⌝ }
+{
+    match kind {
+        0 => 1,
+        1 => 3,
+        2 => 7,
+        _ => 9,
     }
 }
 
-fn cuboid_at(bytes: &[u8], reading: Reading) -> GotShape
-    ensures { λ r. ⌜ got (r .value) (r .reading) ≡ kindAt binary32 1 (now (bytes .entry)) reading ⌝ }
+fn shape_of(kind: u32, words: [u32; 11]) -> Shape
+    ensures { λ r. ⌜ r ≡ shapeIn binary32 kind words ⌝ }
 {
-    let half_extents = vector_at(bytes, reading);
-    let after = half_extents.reading;
-    let h = half_extents.value;
-    GotShape {
-        value: Shape::Cuboid(h.x, h.y, h.z),
-        reading: after,
+    if kind == 0 {
+        return Shape::Ball(float_of(words, 0));
+    }
+    let a = vector_of(words, 0);
+    if kind == 1 {
+        return Shape::Cuboid(a.x, a.y, a.z);
+    }
+    let b = vector_of(words, 3);
+    if kind == 2 {
+        return Shape::Capsule(a.x, a.y, a.z, b.x, b.y, b.z, float_of(words, 6));
+    }
+    let c = vector_of(words, 6);
+    Shape::Triangle(a.x, a.y, a.z, b.x, b.y, b.z, c.x, c.y, c.z)
+}
+
+fn pose_of(words: [u32; 11]) -> Pose
+    ensures { λ r. ⌜ r ≡ poseOf binary32 words ⌝ }
+{
+    let v = vector_of(words, 0);
+    let rotation = Rotation {
+        x: v.x,
+        y: v.y,
+        z: v.z,
+        w: float_of(words, 3),
+    };
+    Pose {
+        rotation,
+        translation: vector_of(words, 4),
     }
 }
 
-fn capsule_at(bytes: &[u8], reading: Reading) -> GotShape
-    ensures { λ r. ⌜ got (r .value) (r .reading) ≡ kindAt binary32 2 (now (bytes .entry)) reading ⌝ }
-{
-    let first = vector_at(bytes, reading);
-    let after_first = first.reading;
-    let second = vector_at(bytes, after_first);
-    let after_second = second.reading;
-    let radius = float_at(bytes, after_second);
-    let after = radius.reading;
-    let a = first.value;
-    let b = second.value;
-    GotShape {
-        value: Shape::Capsule(a.x, a.y, a.z, b.x, b.y, b.z, radius.value),
-        reading: after,
-    }
-}
+// ---- records
 
-fn triangle_at(bytes: &[u8], reading: Reading) -> GotShape
-    ensures { λ r. ⌜ got (r .value) (r .reading) ≡ kindAt binary32 3 (now (bytes .entry)) reading ⌝ }
-{
-    let first = vector_at(bytes, reading);
-    let after_first = first.reading;
-    let second = vector_at(bytes, after_first);
-    let after_second = second.reading;
-    let third = vector_at(bytes, after_second);
-    let after = third.reading;
-    let a = first.value;
-    let b = second.value;
-    let c = third.value;
-    GotShape {
-        value: Shape::Triangle(a.x, a.y, a.z, b.x, b.y, b.z, c.x, c.y, c.z),
-        reading: after,
-    }
-}
-
+// A shape: its kind, and its numbers.
 fn shape_at(bytes: &[u8], reading: Reading) -> GotShape
     ensures { λ r. ⌜ got (r .value) (r .reading) ≡ shapeAt binary32 (now (bytes .entry)) reading ⌝ }
 {
     let number = small_at(bytes, 3, reading);
     let kind = number.value;
-    let after = number.reading;
-    if kind == 0 {
-        return ball_at(bytes, after);
-    }
-    if kind == 1 {
-        return cuboid_at(bytes, after);
-    }
-    if kind == 2 {
-        return capsule_at(bytes, after);
-    }
-    triangle_at(bytes, after)
-}
-
-// ---- records
-
-fn pose_at(bytes: &[u8], reading: Reading) -> GotPose
-    ensures { λ r. ⌜ got (r .value) (r .reading) ≡ poseAt binary32 (now (bytes .entry)) reading ⌝ }
-{
-    let axis = vector_at(bytes, reading);
-    let after_axis = axis.reading;
-    let w = float_at(bytes, after_axis);
-    let after_w = w.reading;
-    let translation = vector_at(bytes, after_w);
-    let after = translation.reading;
-    let v = axis.value;
-    let rotation = Rotation {
-        x: v.x,
-        y: v.y,
-        z: v.z,
-        w: w.value,
-    };
-    let moved = translation.value;
-    let pose = Pose {
-        rotation,
-        translation: moved,
-    };
-    GotPose {
-        value: pose,
+    let after_kind = number.reading;
+    let numbers = numbers_at(bytes, after_kind, size_of(kind));
+    let words = numbers.words;
+    let after = numbers.reading;
+    GotShape {
+        value: shape_of(kind, words),
         reading: after,
     }
 }
@@ -270,26 +265,21 @@ pub fn read_case(bytes: &[u8], at: usize) -> CaseAnswer
     let after_first = first.reading;
     let second = shape_at(bytes, after_first);
     let after_second = second.reading;
-    let pose = pose_at(bytes, after_second);
-    let after_pose = pose.reading;
-    let direction = vector_at(bytes, after_pose);
-    let after_direction = direction.reading;
-    let distance = float_at(bytes, after_direction);
-    let after_distance = distance.reading;
-    let flag = small_at(bytes, 1, after_distance);
+    let numbers = numbers_at(bytes, after_second, 11);
+    let after_numbers = numbers.reading;
+    let flag = small_at(bytes, 1, after_numbers);
     let end = flag.reading;
     match end {
         Reading::At(next) => {
             let g1 = first.value;
             let g2 = second.value;
-            let pos12 = pose.value;
-            let dir = direction.value;
+            let words = numbers.words;
             let case = Case {
                 g1,
                 g2,
-                pos12,
-                dir,
-                max_dist: distance.value,
+                pos12: pose_of(words),
+                dir: vector_of(words, 7),
+                max_dist: float_of(words, 10),
                 exact: flag.value == 1,
             };
             CaseAnswer::Whole { case, next }
