@@ -6,6 +6,8 @@ use Rattle.vector.specs.Vector.{zeroV}
 use Rattle.vector.specs.declared.vec3.Vec3.{Vec3}
 use Rattle.lines.specs.Text.{hexOf, decimalOf}
 use Rattle.lines.specs.declared.line.Counts.{Counts}
+use Rattle.lines.specs.declared.line.MaybeCounts.{MaybeCounts}
+use Rattle.lines.specs.declared.line.MaybeCounts.the-variants.{Some, None}
 use Rattle.lines.specs.declared.line.Outcome.{Outcome}
 use Rattle.lines.specs.declared.line.Outcome.the-variants.{ClosestPoints, Proximity, NoIntersection, Penetration, NoAnswer, Panic, NoPlace}
 
@@ -113,3 +115,10 @@ badLine offset = 98 ∷ 97 ∷ 100 ∷ 32 ∷ [] ++ decimalOf offset ++ 10 ∷ [
 -- `cases`, and how many records were finished
 unfoldable pub lastLine : ℕ → List ℕ
 lastLine n = 99 ∷ 97 ∷ 115 ∷ 101 ∷ 115 ∷ 32 ∷ [] ++ decimalOf n ++ 10 ∷ []
+
+-- ---- for the private functions
+
+-- what `put_counts` writes of the counts that `counts_of` found
+unfoldable pub maybeText : MaybeCounts → List ℕ
+maybeText (Some c) = countsText c
+maybeText None = []
