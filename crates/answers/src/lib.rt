@@ -1,4 +1,6 @@
 // Shapes, answers and verdicts as plain records, for a caller in another language.
+#![tactic(auto)]
+
 ghost use Rattle.std.specs.Prelude.{◌≡◌};
 ghost use Rattle.answers.specs.Answers.{shape_of, answer_with, counts_of, no_counts, answer_of, malformed, voted_of};
 
@@ -9,7 +11,7 @@ use vote::{Answer, Counts, Verdict};
 
 // Document 01's kind of a shape, and its numbers in their order; those that the kind hasn't got are not read.
 #[repr(C)]
-#[derive(Drop)]
+#[derive(Clone, Copy)]
 pub struct ShapeRecord {
     pub kind: u32,
     pub p: Vec3,
@@ -17,7 +19,7 @@ pub struct ShapeRecord {
     pub r: Vec3,
 }
 
-#[derive(Drop)]
+#[derive(Clone, Copy)]
 pub enum MaybeShape {
     Some(Shape),
     None,
@@ -25,7 +27,7 @@ pub enum MaybeShape {
 
 // Of three answers: document 01's number, 0 or 5, the odd channel's number, and the answer.
 #[repr(C)]
-#[derive(Drop)]
+#[derive(Clone, Copy)]
 pub struct Voted {
     pub number: u32,
     pub odd: usize,

@@ -4,7 +4,7 @@ use crate::words::{put_floats, put_sizes};
 use shape::Vertex;
 use vector::Vec3;
 
-#[derive(Drop)]
+#[derive(Clone, Copy)]
 pub struct Answer {
     pub sizes: [usize; 4],
     pub floats: [f32; 10],

@@ -10,7 +10,7 @@ use shape::Vertex;
 use simplex::{Added, Altered, Outcome, VoronoiSimplex};
 
 // The simplex after a call, and the answer.
-#[derive(Drop)]
+#[derive(Clone, Copy)]
 pub struct Changed {
     pub simplex: VoronoiSimplex,
     pub answer: Answer,

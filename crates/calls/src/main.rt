@@ -2,6 +2,8 @@
 // blocks of 32,768 words. A call is the number of its words after this one, the function's number, and its arguments, all in one block; a
 // block ends at its end, or at a call of no words. words.rt and values.rt say how a value goes over, each subject's file which functions
 // it has, and answers.rt what they answer. The program ends with the last whole block, and reads no more than 4,294,967,295.
+#![tactic(auto)]
+
 ghost use Rattle.std.specs.Prelude.{◌≤◌};
 
 mod answers;

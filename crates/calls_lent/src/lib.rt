@@ -1,5 +1,7 @@
 // The lent operations of the simplex. Each is lent a local, which is read back: so the simplex goes over by value, and the answer as that of
 // the operation by value.
+#![tactic(auto)]
+
 ghost use Rattle.std.specs.Prelude.{◌≡◌};
 ghost use Rattle.std.specs.Float.{binary32};
 ghost use Rattle.simplex.specs.Operations.{reset_simplex, add_point};
@@ -10,7 +12,7 @@ use shape::Vertex;
 use simplex::{Added, Altered, VoronoiSimplex};
 
 // The simplex that was lent, and the answer.
-#[derive(Drop)]
+#[derive(Clone, Copy)]
 pub struct Reduced {
     pub simplex: VoronoiSimplex,
     pub projection: Projected,

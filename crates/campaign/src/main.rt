@@ -1,6 +1,8 @@
 // Figures over a whole test campaign (ticket 11): a case file on standard input, five lines on standard output, and a sixth where
 // a malformed record or the number of records ended the reading. What is read and counted for a record is `figures::figures_next`,
 // and what moves the bytes is `pipes`. Where a read or a write fails, standard error says so and no figures are told.
+#![tactic(auto)]
+
 use figures::{Figures, Reckoned, Stop};
 use lines::Placed;
 use pipes::{Ready, State};
@@ -10,7 +12,7 @@ use window::Window;
 const MOST_TURNS: u64 = 4_294_967_296;
 
 // Where the run stands.
-#[derive(Drop)]
+#[derive(Clone, Copy)]
 enum Campaign {
     // The window on the file, and the figures of the records before it.
     Open(Window, Figures),

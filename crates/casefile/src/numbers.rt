@@ -6,7 +6,7 @@ ghost use Rattle.number.specs.Told.{Told};
 ghost use Rattle.casefile.specs.Numbers.{decode_number, number_outcome, number_values, later_in, joined};
 
 // What reading a number finds.
-#[derive(Drop)]
+#[derive(Clone, Copy)]
 pub enum NumberAnswer {
     // The number, and the place after it.
     Read { value: u32, next: usize },

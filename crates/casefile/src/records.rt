@@ -11,7 +11,7 @@ use shape::Shape;
 use vector::{Pose, Rotation, Vec3};
 
 // Two shapes, the pose of the second, the start direction, the largest distance and the exact flag.
-#[derive(Drop)]
+#[derive(Clone, Copy)]
 pub struct Case {
     pub g1: Shape,
     pub g2: Shape,
@@ -22,7 +22,7 @@ pub struct Case {
 }
 
 // What reading a record finds.
-#[derive(Drop)]
+#[derive(Clone, Copy)]
 pub enum CaseAnswer {
     // The record, and the place after it.
     Whole { case: Case, next: usize },
@@ -33,7 +33,7 @@ pub enum CaseAnswer {
 }
 
 // Where reading stands.
-#[derive(Drop)]
+#[derive(Clone, Copy)]
 pub enum Reading {
     // at the place of the next number
     At(usize),
@@ -44,20 +44,20 @@ pub enum Reading {
 }
 
 // What was read, zero where it was refused, and where reading stands then.
-#[derive(Drop)]
+#[derive(Clone, Copy)]
 pub struct GotNumber {
     pub value: u32,
     pub reading: Reading,
 }
 
 // Numbers that are read together: at most eleven, in the first places.
-#[derive(Drop)]
+#[derive(Clone, Copy)]
 pub struct GotNumbers {
     pub words: [u32; 11],
     pub reading: Reading,
 }
 
-#[derive(Drop)]
+#[derive(Clone, Copy)]
 pub struct GotShape {
     pub value: Shape,
     pub reading: Reading,

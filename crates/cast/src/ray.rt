@@ -6,14 +6,14 @@ ghost use Rattle.cast.specs.Ray.{is_zero, ray_toi_with_halfspace};
 use vector::Vec3;
 
 #[repr(C)]
-#[derive(Drop)]
+#[derive(Clone, Copy)]
 pub struct Ray {
     pub origin: Vec3,
     pub dir: Vec3,
 }
 
 // The Rust's `Option<Real>`.
-#[derive(Drop)]
+#[derive(Clone, Copy)]
 pub enum MaybeTime {
     Some(f32),
     None,

@@ -16,7 +16,7 @@ use vector::{Pose, Vec3};
 use witnesses::{Witnesses, result};
 
 // The Rust's `Option` of a time and a direction, and the refusal.
-#[derive(Drop)]
+#[derive(Clone, Copy)]
 pub enum Cast {
     Impact(f32, Vec3),
     Miss,
@@ -24,7 +24,7 @@ pub enum Cast {
 }
 
 // What a cast is asked, and what it computes once.
-#[derive(Drop)]
+#[derive(Clone, Copy)]
 pub struct Query {
     pos12: Pose,
     g1: Shape,
@@ -36,7 +36,7 @@ pub struct Query {
 }
 
 // What the Rust's loop carries from round to round, besides the simplex and the number of rounds.
-#[derive(Drop)]
+#[derive(Clone, Copy)]
 pub struct Round {
     ltoi: f32,
     curr_ray: Ray,
@@ -46,13 +46,13 @@ pub struct Round {
     last_chance: bool,
 }
 
-#[derive(Drop)]
+#[derive(Clone, Copy)]
 pub enum Next {
     Onward(Round),
     Ended(Cast),
 }
 
-#[derive(Drop)]
+#[derive(Clone, Copy)]
 pub struct Turn {
     simplex: VoronoiSimplex,
     next: Next,

@@ -2,6 +2,8 @@
 // and the direction, floats as their bits in eight hexadecimal digits, all NaNs alike.
 // A cast is 34 numbers of four bytes, lowest byte first: kind and nine numbers of each shape, quaternion, translation, the ray's
 // origin and direction, the largest time. No more than 4,294,967,295 are read.
+#![tactic(auto)]
+
 ghost use Rattle.std.specs.Prelude.{◌≤◌};
 
 use cast::{Cast, Ray};

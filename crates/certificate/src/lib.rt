@@ -1,19 +1,21 @@
 // A proposed separating direction, checked in whole numbers (ticket 12): two hulls, each a list of corners with three numbers
 // a corner, and a direction. Nothing is written, and nothing has to be known of how the direction was found.
+#![tactic(auto)]
+
 ghost use Rattle.std.specs.Prelude.{◌+◌, ◌≤◌, ◌<◌, ◌≡◌, true, ◌*ℤ◌, length};
 ghost use Rattle.certificate.specs.Certificate.{every, is_hull, on_grid, vector_on_grid, corners, product, above, certify, certificate_number};
 ghost use Rattle.certificate.specs.Parts.{corner_at, Bounds};
 
 // A corner or a direction, on the cell's grid.
 #[repr(C)]
-#[derive(Drop)]
+#[derive(Clone, Copy)]
 pub struct GridVector {
     pub x: i32,
     pub y: i32,
     pub z: i32,
 }
 
-#[derive(Drop)]
+#[derive(Clone, Copy)]
 pub enum Certificate {
     // Every corner of the first hull has a strictly smaller product with the direction than every corner of the second.
     Accepted,

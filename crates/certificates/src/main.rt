@@ -1,6 +1,8 @@
 // Cases of the checker on standard input, a line for each on standard output: the number of the answer, 0, 9, 10 or 11, in two places.
 // A case is numbers of four bytes, lowest byte first: how many numbers the first hull has and how many the second, the direction, then
 // the numbers of both. A case with more than 256 numbers in a hull, or cut off, ends the program. No more than 4,294,967,295 are read.
+#![tactic(auto)]
+
 ghost use Rattle.std.specs.Prelude.{◌≤◌, length};
 
 use certificate::{Certificate, GridVector};

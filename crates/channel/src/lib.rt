@@ -1,5 +1,7 @@
 // The separation channel: from two shapes and the pose of the second in the frame of the first, how far apart they are by
 // GJK, and where they meet, how deep by the expanding polytope, whose silhouette is walked without recursion. The answer is what a record's line tells.
+#![tactic(auto)]
+
 ghost use Rattle.std.specs.Prelude.{◌≡◌};
 ghost use Rattle.std.specs.Float.{binary32};
 ghost use Rattle.epa.specs.Final.{all_lent, Ends};

@@ -1,5 +1,7 @@
 // The separation channel with the silhouette's store lent as one list of records, each a face number and a corner: what the crate
 // `channel` does on a row of numbers by value, two places an edge, which is written back over the records.
+#![tactic(auto)]
+
 ghost use Rattle.std.specs.Prelude.{◌≡◌};
 ghost use Rattle.std.specs.Float.{binary32};
 ghost use Rattle.edges.specs.Edges.{Whole};
@@ -13,7 +15,7 @@ use shape::Shape;
 use vector::{Pose, Vec3};
 
 // What the channel on a row answers, and the row that it leaves.
-#[derive(Drop)]
+#[derive(Clone, Copy)]
 struct Ran {
     answer: Outcome,
     row: Row,

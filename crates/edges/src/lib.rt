@@ -1,17 +1,19 @@
 // The silhouette's store as document 01 has it, a list of records, each a face number and a corner, lent as a slice. What
 // works on one row of numbers, two places an edge, is handed the records by value, and its row is written back over them.
+#![tactic(auto)]
+
 ghost use Rattle.std.specs.Prelude.{◌≡◌, min};
 ghost use Rattle.edges.specs.Edges.{row_of, published};
 
 #[repr(C)]
-#[derive(Drop)]
+#[derive(Clone, Copy)]
 pub struct Edge {
     pub face: usize,
     pub corner: usize,
 }
 
 // The first `n` records of a store, each a pair of places. A pass never records more than 206.
-#[derive(Drop)]
+#[derive(Clone, Copy)]
 pub struct Row {
     pub pairs: [usize; 412],
     pub n: usize,

@@ -10,7 +10,7 @@ use vector::{Pose, Vec3};
 
 // The number of the answer, and the time and the direction; what is no answer has zeros.
 #[repr(C)]
-#[derive(Drop)]
+#[derive(Clone, Copy)]
 pub struct CastRecord {
     pub number: u32,
     pub time: f32,

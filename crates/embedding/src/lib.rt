@@ -1,5 +1,7 @@
 // The channel, the vote, the cast (impact.rt) and the checker of a separating direction (certify.rt) under C names, for a caller in another language
 // (include/separation.h). Each is lent what it needs: nothing is allocated and nothing kept. Stores of any lengths are taken; a kind of shape above 3 is answered as malformed.
+#![tactic(auto)]
+
 ghost use Rattle.std.specs.Prelude.{◌≡◌};
 ghost use Rattle.std.specs.Float.{binary32};
 ghost use Rattle.vote.specs.Vote.{vote_of};
@@ -50,7 +52,7 @@ fn run_numbers(
 }
 
 // What a run on a row by value answers, and the row that it leaves.
-#[derive(Drop)]
+#[derive(Clone, Copy)]
 struct Ran {
     answer: Answer,
     row: Row,

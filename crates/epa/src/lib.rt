@@ -1,6 +1,8 @@
 // Penetration: from two shapes that meet, the pose of the second in the frame of the first, and the simplex that GJK ended with, a
 // point on each and a normal, by the expanding polytope of epa3.rs. The caller lends the four stores, or five: where the silhouette is
 // walked without recursion, the pending questions too.
+#![tactic(auto)]
+
 ghost use Rattle.std.specs.Prelude.{◌≡◌};
 ghost use Rattle.std.specs.Float.{binary32};
 ghost use Rattle.number.specs.Told.{Told};

@@ -3,7 +3,7 @@ use epa_polytope::End;
 
 // The counts of a whole run: expansions completed, faces made, faces live at the end, the most edges recorded
 // in one pass, and the lookups that missed.
-#[derive(Drop)]
+#[derive(Clone, Copy)]
 pub struct Counts {
     pub expansions: usize,
     pub faces_made: usize,
@@ -13,7 +13,7 @@ pub struct Counts {
 }
 
 // How a run ended, and its counts.
-#[derive(Drop)]
+#[derive(Clone, Copy)]
 pub struct Answer {
     pub end: End,
     pub counts: Counts,

@@ -14,7 +14,7 @@ use projection::is_inside_eps;
 use vector::Vec3;
 
 // The weights of the corners at the projection of the origin, and whether the face holds it.
-#[derive(Drop)]
+#[derive(Clone, Copy)]
 struct Weighed {
     weights: Vec3,
     holds: bool,

@@ -1,5 +1,7 @@
 // Faces: `Face` of epa3.rs, with `ccw_face_normal` of utils. What each function returns is a definition of the crate `epa_polytope`, at binary32,
 // whatever the lists hold that it is not lent.
+#![tactic(auto)]
+
 ghost use Rattle.std.specs.Prelude.{◌≡◌};
 ghost use Rattle.std.specs.Float.{binary32};
 ghost use Rattle.epa_polytope.specs.Face.{face_new};

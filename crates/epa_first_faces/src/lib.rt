@@ -1,5 +1,7 @@
 // The first faces of the polytope of epa3.rs, over lists that the caller lends: four of four vertices, else two ("Initialization" of
 // `EPA::closest_points`). What each function leaves and answers is a step of the run that the crate `epa_polytope` defines.
+#![tactic(auto)]
+
 ghost use Rattle.epa_polytope.specs.Stores.{with_vertices, with_face_ids, with_face_floats, with_deleted, with_heap};
 ghost use Rattle.epa_polytope.specs.Start.{start_faces};
 ghost use Rattle.epa_polytope.specs.Promises.{Leaves, when, single_world};

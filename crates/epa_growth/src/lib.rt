@@ -1,4 +1,6 @@
 // The new faces along the silhouette: `for edge in &self.silhouette` in the loop of `EPA::closest_points` of epa3.rs.
+#![tactic(auto)]
+
 ghost use Rattle.std.specs.Prelude.{◌≡◌, ◌+◌};
 ghost use Rattle.epa_polytope.specs.Stores.{with_vertices, with_face_ids, with_face_floats, with_deleted, with_heap};
 ghost use Rattle.epa_polytope.specs.Expansion.{queue_new, grow_at, grow, grow_all};
@@ -12,7 +14,7 @@ use epa_stores::{before, corner_at, deleted_at, normal_of, pair_at, set_neighbou
 use heap::Pushed;
 
 // What comes of an edge. A `Step` for each would carry an end and a whole tally, of which a new face changes two counts only.
-#[derive(Drop)]
+#[derive(Clone, Copy)]
 enum Grown {
     // its face is deleted: no new face
     Nothing,

@@ -1,5 +1,7 @@
 // Penetration with the silhouette's store lent as one list of records, each a face number and a corner. The run goes on a row of
 // numbers by value, two places an edge, and what it holds at the end is written back over the records.
+#![tactic(auto)]
+
 ghost use Rattle.std.specs.Prelude.{◌≡◌};
 ghost use Rattle.std.specs.Float.{binary32};
 ghost use Rattle.edges.specs.Edges.{Whole};
@@ -14,7 +16,7 @@ use simplex::VoronoiSimplex;
 use vector::Pose;
 
 // What a run on a row answers, and the row that it leaves.
-#[derive(Drop)]
+#[derive(Clone, Copy)]
 struct Ran {
     answer: Answer,
     row: Row,

@@ -1,6 +1,8 @@
 // The silhouette walk without recursion: a loop over a lent store of pending questions, last in, first out. What a
 // question does is as in `compute_silhouette` of epa3.rs (`epa_silhouette`), but that the two which follow from a seen
 // face are put in, the second first. How many faces are live falls with each that is seen.
+#![tactic(auto)]
+
 ghost use Rattle.std.specs.Prelude.{◌<◌, ◌≡◌, false};
 ghost use Rattle.epa_polytope.specs.Stores.{with_vertices, with_face_ids, with_face_floats};
 ghost use Rattle.epa_polytope.specs.Silhouette.{walked};

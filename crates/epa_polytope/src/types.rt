@@ -5,42 +5,42 @@ use vector::Vec3;
 
 // A face, and a corner of it: whether the face is seen, asked across the side that the corner lies opposite
 // (the Rust's `face_id` and `opp_pt_id`).
-#[derive(Drop)]
+#[derive(Clone, Copy)]
 pub struct Question {
     pub face: usize,
     pub corner: usize,
 }
 
 // Whether a face has a vertex: at the corner before this one, or at none (what `next_ccw_pt_id` finds).
-#[derive(Drop)]
+#[derive(Clone, Copy)]
 pub enum Lookup {
     FoundAt(usize),
     Missing,
 }
 
 // The question to a neighbour, and how many lookups of the run have missed.
-#[derive(Drop)]
+#[derive(Clone, Copy)]
 pub struct Facing {
     pub question: Question,
     pub missed: usize,
 }
 
 // How a walk ends: with the number of edges that are now recorded, or for want of room.
-#[derive(Drop)]
+#[derive(Clone, Copy)]
 pub enum WalkAnswer {
     Done(usize),
     NoRoom,
 }
 
 // How far a walk has come: how it would end here, and how many lookups of the run have missed.
-#[derive(Drop)]
+#[derive(Clone, Copy)]
 pub struct WalkSoFar {
     pub answer: WalkAnswer,
     pub missed: usize,
 }
 
 // How far a plain walk has come: the same, the questions that are held, and whether there was no place for one.
-#[derive(Drop)]
+#[derive(Clone, Copy)]
 pub struct PlainSoFar {
     pub answer: WalkAnswer,
     pub missed: usize,
@@ -50,7 +50,7 @@ pub struct PlainSoFar {
 
 // Which walk a run uses: the Rust's own, or the one without recursion. The definitions have it; the code has a `bool`
 // for it, and `pass_by` of epa_plain_walk says why.
-#[derive(Drop)]
+#[derive(Clone, Copy)]
 pub enum Walk {
     Recursive,
     Plain,
@@ -58,7 +58,7 @@ pub enum Walk {
 
 // What a face is made of, besides the numbers of its corners and neighbours: the normal, the weights of the
 // corners, and whether it holds the projection of the origin (of `Face::new`: `normal`, `bcoords` and `proj_inside`).
-#[derive(Drop)]
+#[derive(Clone, Copy)]
 pub struct Made {
     pub normal: Vec3,
     pub weights: Vec3,
@@ -66,7 +66,7 @@ pub struct Made {
 }
 
 // The numbers of three corners or three neighbours.
-#[derive(Drop)]
+#[derive(Clone, Copy)]
 pub struct Three {
     pub a: usize,
     pub b: usize,
@@ -75,7 +75,7 @@ pub struct Three {
 
 // How far a run has come: the entries in each store, the expansions completed, the most edges recorded in one
 // pass, and the lookups that missed.
-#[derive(Drop)]
+#[derive(Clone, Copy)]
 pub struct Tally {
     pub vertices: usize,
     pub faces: usize,
@@ -88,7 +88,7 @@ pub struct Tally {
 }
 
 // The store that was full.
-#[derive(Drop)]
+#[derive(Clone, Copy)]
 pub enum Store {
     Vertices,
     Faces,
@@ -98,7 +98,7 @@ pub enum Store {
 }
 
 // Why there is an answer.
-#[derive(Drop)]
+#[derive(Clone, Copy)]
 pub enum Found {
     // the start is one point, and no direction leads away from it
     SinglePoint,
@@ -115,7 +115,7 @@ pub enum Found {
 }
 
 // Why there is none.
-#[derive(Drop)]
+#[derive(Clone, Copy)]
 pub enum Lost {
     // a starting face's key is refused
     KeyAtStart,
@@ -130,7 +130,7 @@ pub enum Lost {
 }
 
 // Where the Rust panics.
-#[derive(Drop)]
+#[derive(Clone, Copy)]
 pub enum Site {
     // the value given is no simplex
     NotASimplex,
@@ -140,7 +140,7 @@ pub enum Site {
 
 // How a run ends: with a point on each shape and a normal; with none; where the Rust panics; or for want of
 // room.
-#[derive(Drop)]
+#[derive(Clone, Copy)]
 pub enum End {
     Answers(Found, Vec3, Vec3, Vec3),
     Nothing(Lost),
@@ -149,42 +149,42 @@ pub enum End {
 }
 
 // After a step: the run goes on, or has ended.
-#[derive(Drop)]
+#[derive(Clone, Copy)]
 pub enum Step {
     Onward(Tally),
     Ended(End, Tally),
 }
 
 // After the start: the run has its first faces, and goes on with the tolerance of its keys; or it has ended.
-#[derive(Drop)]
+#[derive(Clone, Copy)]
 pub enum Begun {
     Ready(f32, Tally),
     Ended(End, Tally),
 }
 
 // After an expansion: the run goes on with what is carried to the next one, or has ended.
-#[derive(Drop)]
+#[derive(Clone, Copy)]
 pub enum Visited {
     Next(Best, Tally),
     Ended(End, Tally),
 }
 
 // How a run ended, and how far it came.
-#[derive(Drop)]
+#[derive(Clone, Copy)]
 pub struct Finish {
     pub end: End,
     pub tally: Tally,
 }
 
 // A face and its key, the negated distance (`FaceId` of epa3.rs).
-#[derive(Drop)]
+#[derive(Clone, Copy)]
 pub struct FaceId {
     pub id: usize,
     pub neg_dist: f32,
 }
 
 // The Rust's `Option<FaceId>`, of a key that may be refused and of a heap that may be empty.
-#[derive(Drop)]
+#[derive(Clone, Copy)]
 pub enum MaybeFaceId {
     Some(FaceId),
     None,
@@ -192,7 +192,7 @@ pub enum MaybeFaceId {
 
 // What is known of an expansion under way: the face that is expanded, its distance, the new vertex, and the
 // tolerance of the keys (the Rust's `face_id.id`, `curr_dist`, `support_point_id` and `dist_tol`).
-#[derive(Drop)]
+#[derive(Clone, Copy)]
 pub struct Expansion {
     pub face: usize,
     pub dist: f32,
@@ -202,7 +202,7 @@ pub struct Expansion {
 
 // What is carried from one expansion to the next: the best face, the best bound, and the distance of the
 // last face (the Rust's `best_face_id`, `max_dist` and `old_dist`).
-#[derive(Drop)]
+#[derive(Clone, Copy)]
 pub struct Best {
     pub face: usize,
     pub bound: f32,
@@ -210,14 +210,14 @@ pub struct Best {
 }
 
 // The Rust's `Option<CsoPoint>`.
-#[derive(Drop)]
+#[derive(Clone, Copy)]
 pub enum MaybeVertex {
     Some(Vertex),
     None,
 }
 
 // The entry of a live face that was popped, or none, and how far the run has come.
-#[derive(Drop)]
+#[derive(Clone, Copy)]
 pub struct Popped {
     pub entry: MaybeFaceId,
     pub tally: Tally,

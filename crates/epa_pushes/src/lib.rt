@@ -1,6 +1,8 @@
 // The pushes of the polytope's run (`self.vertices.push`, `self.faces.push`, `self.heap.push` and `FaceId::new` of epa3.rs), over lists that
 // the caller lends, each refused where its store has no place left. What each leaves and answers is a step of the run that the crate
 // `epa_polytope` defines.
+#![tactic(auto)]
+
 ghost use Rattle.std.specs.Prelude.{◌≡◌, cond, ◌+◌, ◌*◌, ◌≤◌, min, length};
 ghost use Rattle.epa_polytope.specs.declared.types.End.TheVariants.{NoRoom};
 ghost use Rattle.epa_polytope.specs.declared.types.Step.TheVariants.{Onward, Ended};

@@ -1,5 +1,7 @@
 // The silhouette walk: `compute_silhouette` of epa3.rs. It deletes the faces that are seen from the new vertex, and
 // records an edge at each live face that is not. How many faces are live falls with each that is seen.
+#![tactic(auto)]
+
 ghost use Rattle.std.specs.Prelude.{◌≡◌};
 ghost use Rattle.epa_polytope.specs.Stores.{with_vertices, with_face_ids, with_face_floats};
 ghost use Rattle.epa_polytope.specs.Silhouette.{walked, walked_by, noted, walk, pass};

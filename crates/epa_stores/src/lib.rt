@@ -1,6 +1,8 @@
 // Reads and writes of the lent lists, which hold the fields of `EPA`, `Face` and `SilhouetteEdge` of epa3.rs. A place that a list hasn't
 // got reads as 0, as NaNs, or as deleted, and a write to it does nothing: so these ask nothing of their caller. Between two
 // expansions every number that a list holds is in range (`in-range` of the crate `epa_polytope`).
+#![tactic(auto)]
+
 ghost use Rattle.std.specs.Prelude.{◌≡◌, ◌+◌, ◌-◌, ◌*◌, ◌≤◌, [], length, get_or, set};
 ghost use Rattle.std.proofs.lemmas.List.Edits.{sets};
 ghost use Rattle.epa_polytope.specs.Stores.{vec_at, vec_cells, vertex_at, put_vertex, normal_of, weights_of, put_made, live_to, corner_in, neighbour_in, linked_in};

@@ -5,7 +5,7 @@ ghost use Rattle.figures.specs.Figures.{no_figures, tallied as tallied_of, lette
 use lines::{Counts, Outcome};
 
 // Records per letter of their lines, in the order in which the figures have them.
-#[derive(Drop)]
+#[derive(Clone, Copy)]
 pub struct Letters {
     pub d: u64,
     pub m: u64,
@@ -18,7 +18,7 @@ pub struct Letters {
 
 // With them: the sum of expansions, how many records carry counts, the greatest faces made and the first record that had it. Both are zero
 // while none carries counts.
-#[derive(Drop)]
+#[derive(Clone, Copy)]
 pub struct Figures {
     pub letters: Letters,
     pub expansions: u64,

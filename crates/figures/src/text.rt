@@ -9,7 +9,7 @@ use crate::sums::{Figures, Letters};
 use lines::Placed;
 
 // Why no more is read.
-#[derive(Drop)]
+#[derive(Clone, Copy)]
 pub enum Stop {
     // The file's end.
     File,

@@ -10,7 +10,7 @@ use crate::sums::Figures;
 use casefile::CaseAnswer;
 
 // What one turn did.
-#[derive(Drop)]
+#[derive(Clone, Copy)]
 pub enum Reckoned {
     // A record was counted: the place of the next one, and the figures with it.
     Counted { next: usize, figures: Figures },

@@ -24,7 +24,7 @@ use witnesses::{Witnesses, result};
 const MAX_PERTURBATIONS: usize = 6;
 
 // The Rust's four results, and the refusal.
-#[derive(Drop)]
+#[derive(Clone, Copy)]
 pub enum GJKResult {
     Intersection,
     ClosestPoints(Vec3, Vec3, Vec3),
@@ -33,14 +33,14 @@ pub enum GJKResult {
     Refused,
 }
 
-#[derive(Drop)]
+#[derive(Clone, Copy)]
 pub struct Gjk {
     pub simplex: VoronoiSimplex,
     pub result: GJKResult,
 }
 
 // What a run is asked, and its tolerance.
-#[derive(Drop)]
+#[derive(Clone, Copy)]
 pub struct Query {
     pos12: Pose,
     g1: Shape,
@@ -52,7 +52,7 @@ pub struct Query {
 
 // What the Rust's loop carries from round to round, besides the simplex. `support_square` is the square of its `support_scale`: only
 // `is_touching` reads the scale, and takes the root. `niter` stays below 100, as the round that brings it there ends the run.
-#[derive(Drop)]
+#[derive(Clone, Copy)]
 pub struct Carried {
     proj: Vec3,
     old_dir: Vec3,
@@ -64,7 +64,7 @@ pub struct Carried {
 }
 
 // How a run ends. Its result is made of it and of the last simplex, in one place and once (`result_of`).
-#[derive(Drop)]
+#[derive(Clone, Copy)]
 pub enum Ending {
     Intersection,
     // with the witness points of the present simplex, or of the one before
@@ -74,33 +74,33 @@ pub enum Ending {
     Refused,
 }
 
-#[derive(Drop)]
+#[derive(Clone, Copy)]
 pub enum Next {
     Onward(Carried),
     Ended(Ending),
 }
 
-#[derive(Drop)]
+#[derive(Clone, Copy)]
 pub struct Turn {
     simplex: VoronoiSimplex,
     next: Next,
 }
 
 // Where a turn looks, unless it ends the run. No simplex is handed on: a turn alters it only once it has a vertex to add.
-#[derive(Drop)]
+#[derive(Clone, Copy)]
 pub enum Heading {
     Toward(Carried, Vec3),
     Ended(Ending),
 }
 
 // What it sees there: the direction, the lower bound, and the vertex to be added.
-#[derive(Drop)]
+#[derive(Clone, Copy)]
 pub enum Sight {
     Point(Carried, Vec3, f32, Vertex),
     Ended(Ending),
 }
 
-#[derive(Drop)]
+#[derive(Clone, Copy)]
 pub struct Ran {
     simplex: VoronoiSimplex,
     ending: Ending,

@@ -1,5 +1,5 @@
 -- One step of `rise` and of `sink`, whatever the fuel: the definitions' bounds on the number of steps cut nothing off. Assumes nothing.
-use mathlib.Core.Path.{◌≡◌, refl, sym, ap, ◌∙◌}
+use mathlib.Core.Path.{◌≡◌, refl, sym, ap, ◌∙◌, subst}
 use mathlib.Core.Bool.{Bool, true, false, cond}
 use mathlib.Core.List.{List}
 use Prim.Native.Nat.{ℕ, zero, suc, ◌+◌, ◌-◌, ◌*◌, ◌/◌, ◌<◌, ◌≤◌}
@@ -36,7 +36,8 @@ unfolding rise rise_in
 rise-up h zero p l q e = let z : ⊥ = omega arith in absurd z
 rise-up h (suc i) p l q e =
     let r : i / 2 ≡ p = omega arith in
-    rw (r, e) (rise_in-enough (suc i) (suc p) (swap h (suc i) p) p (omega arith) (omega arith))
+    subst (λ (z : ℕ). less h z (suc i) ≡ true → rise h (suc i) ≡ rise (swap h (suc i) z) z) r
+    (λ d. rw d (rise_in-enough (suc i) (suc (i / 2)) (swap h (suc i) (i / 2)) (i / 2) (omega arith) (omega arith))) e
 
 -- below a parent that is not: it stays
 pub rise-stays : (h : Heap) (i p : ℕ) → 0 < i → p ≡ (i - 1) / 2 → less h p i ≡ false → rise h i ≡ h

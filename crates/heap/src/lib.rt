@@ -3,6 +3,8 @@
 // Carries alloc's `BinaryHeap::push`, `peek` and `pop` as rustc 1.95 has them; specs/Heap.antt is what they compute.
 // The store is as long as the shorter slice. No call returns a count above that. If one is passed all the same, the call
 // answers `NoRoom` and writes nothing. A pop zeroes the place that it frees at once, and no call touches a place above its own last.
+#![tactic(auto)]
+
 ghost use Rattle.std.specs.Prelude.{◌≡◌};
 ghost use Rattle.number.specs.Told.{Told};
 ghost use Rattle.heap.specs.Heap.{heap, entry};
@@ -12,7 +14,7 @@ ghost use Rattle.heap.specs.Calls.{after, push_of, push_number, push_value, peek
 mod sift;
 
 // How a push ends.
-#[derive(Drop)]
+#[derive(Clone, Copy)]
 pub enum Pushed {
     // The entry is in; there are so many now.
     Done(usize),
@@ -21,7 +23,7 @@ pub enum Pushed {
 }
 
 // The entry that goes out next.
-#[derive(Drop)]
+#[derive(Clone, Copy)]
 pub enum Peeked {
     First { face: usize, key: f32 },
     Empty,
@@ -30,7 +32,7 @@ pub enum Peeked {
 }
 
 // How a pop ends.
-#[derive(Drop)]
+#[derive(Clone, Copy)]
 pub enum Popped {
     // The entry that went out, and how many are left.
     First { face: usize, key: f32, count: usize },

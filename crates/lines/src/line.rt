@@ -13,7 +13,7 @@ use vector::Vec3;
 // The counts of a run: expansions completed, faces made, faces live at the end, most edges in one pass, lookups that missed.
 // A type of its own: with that of `epa` whoever prints a line would depend on the polytope, and the polytope has no business
 // with lines. The crate `outcome`, which depends on both, turns one into the other.
-#[derive(Drop)]
+#[derive(Clone, Copy)]
 pub struct Counts {
     pub expansions: usize,
     pub made: usize,
@@ -23,7 +23,7 @@ pub struct Counts {
 }
 
 // What a record's line tells, with its letter.
-#[derive(Drop)]
+#[derive(Clone, Copy)]
 pub enum Outcome {
     // D: two points and a direction
     ClosestPoints(Vec3, Vec3, Vec3),
@@ -108,7 +108,7 @@ fn put_five(out: &mut [u8], at: usize, c: Counts) -> usize
 }
 
 // The counts that an outcome carries.
-#[derive(Drop)]
+#[derive(Clone, Copy)]
 enum MaybeCounts {
     Some(Counts),
     None,

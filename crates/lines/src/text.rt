@@ -4,7 +4,7 @@ ghost use Rattle.std.specs.Prelude.{◌≡◌, [], ◌∷◌, ◌+◌, ◌<◌, 
 ghost use Rattle.lines.specs.Text.{Put, after, place_of, hex_digit, hex_pair, hex_of, digit as digit_of, decimal_in, decimal_of};
 
 // How writing ends.
-#[derive(Drop)]
+#[derive(Clone, Copy)]
 pub enum Placed {
     // The text is in; the place after it.
     Next(usize),

@@ -1,4 +1,6 @@
 // A run of the polytope, told as the outcome of a record: letters P, N and R with the run's counts, and X.
+#![tactic(auto)]
+
 ghost use Rattle.std.specs.Prelude.{◌≡◌};
 ghost use Rattle.number.specs.Told.{Told};
 ghost use Rattle.lines.specs.Lines.{outcome_number, outcome_values};

@@ -3,6 +3,8 @@
 // A read that fails, unlike the file's end, ends a run as failed, and so does a write that fails.
 // No contract can say which bytes come in or where they go: those here say how the window and the places of a run move,
 // and which bytes stay.
+#![tactic(auto)]
+
 ghost use Rattle.std.specs.Prelude.{◌≡◌, true};
 ghost use Rattle.pipes.specs.Pipes.{start_window, enough_of, Kept, Brought, ReadOn, Read, Filled, Written, Roomy, is_open, after_turn, Readied};
 
@@ -16,7 +18,7 @@ const RECORD_BYTES: usize = 160;
 const NEARLY_FULL: usize = 65_327;
 
 // What a read found: more bytes and their end, the file's end, or an error.
-#[derive(Drop)]
+#[derive(Clone, Copy)]
 pub enum Got {
     Until(usize),
     End,
@@ -24,21 +26,21 @@ pub enum Got {
 }
 
 // The window, once the buffer was seen to.
-#[derive(Drop)]
+#[derive(Clone, Copy)]
 pub enum Seen {
     At(Window),
     Failed,
 }
 
 // Where a write left the output's place.
-#[derive(Drop)]
+#[derive(Clone, Copy)]
 pub enum Room {
     At(usize),
     Failed,
 }
 
 // Where a run stands.
-#[derive(Drop)]
+#[derive(Clone, Copy)]
 pub enum State {
     // The window on the file, and the place of the next line in the output.
     Open(Window, usize),
@@ -49,7 +51,7 @@ pub enum State {
 }
 
 // Whether a record can be answered.
-#[derive(Drop)]
+#[derive(Clone, Copy)]
 pub enum Ready {
     // The window that it stands in, and the place of its line.
     Record(Window, usize),

@@ -7,21 +7,21 @@ ghost use Rattle.projection.specs.Segment.{on_edge, project_segment, segment_num
 use vector::Vec3;
 
 #[repr(C)]
-#[derive(Drop)]
+#[derive(Clone, Copy)]
 pub struct Segment {
     pub a: Vec3,
     pub b: Vec3,
 }
 
 // At a corner, or on the edge with the weights of a and b.
-#[derive(Drop)]
+#[derive(Clone, Copy)]
 pub enum SegmentPointLocation {
     OnVertex(u32),
     OnEdge(f32, f32),
 }
 
 // The projection and its location, or a refusal where the Rust asserts.
-#[derive(Drop)]
+#[derive(Clone, Copy)]
 pub enum SegmentProjection {
     At(Vec3, SegmentPointLocation),
     Refused,

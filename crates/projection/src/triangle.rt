@@ -11,7 +11,7 @@ use crate::relative::relative_eq;
 use vector::Vec3;
 
 #[repr(C)]
-#[derive(Drop)]
+#[derive(Clone, Copy)]
 pub struct Triangle {
     pub a: Vec3,
     pub b: Vec3,
@@ -20,7 +20,7 @@ pub struct Triangle {
 
 // At a corner; on an edge (0: ab, 1: bc, 2: ac) with the weights of its ends; on a side of the face
 // (0 or 1) with the weights of a, b and c; or solid, where their sum before the division is 0.
-#[derive(Drop)]
+#[derive(Clone, Copy)]
 pub enum TrianglePointLocation {
     OnVertex(u32),
     OnEdge(u32, f32, f32),
@@ -28,14 +28,14 @@ pub enum TrianglePointLocation {
     OnSolid,
 }
 
-#[derive(Drop)]
+#[derive(Clone, Copy)]
 pub struct TriangleProjection {
     pub point: Vec3,
     pub location: TrianglePointLocation,
 }
 
 // The weights of the three corners; none for a solid; or a refusal at a location that no triangle has.
-#[derive(Drop)]
+#[derive(Clone, Copy)]
 pub enum BarycentricCoordinates {
     Some(f32, f32, f32),
     None,
@@ -43,7 +43,7 @@ pub enum BarycentricCoordinates {
 }
 
 // The edges, and the way to `pt` from each corner.
-#[derive(Drop)]
+#[derive(Clone, Copy)]
 pub struct Differences {
     ab: Vec3,
     ac: Vec3,
@@ -53,7 +53,7 @@ pub struct Differences {
     cp: Vec3,
 }
 
-#[derive(Drop)]
+#[derive(Clone, Copy)]
 pub struct Dots {
     ab_ap: f32,
     ac_ap: f32,
@@ -64,14 +64,14 @@ pub struct Dots {
 }
 
 // What a corner's region gives, if one holds the point.
-#[derive(Drop)]
+#[derive(Clone, Copy)]
 pub enum MaybeProjection {
     Some(TriangleProjection),
     None,
 }
 
 // The edge whose region holds the point; or the face's side, and its weights before the division.
-#[derive(Drop)]
+#[derive(Clone, Copy)]
 pub enum ProjectionInfo {
     OnAB,
     OnAC,

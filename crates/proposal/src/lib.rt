@@ -1,5 +1,7 @@
 // The proposer: a direction in floats, as GJK answers it, as one on the cell's grid. It owes nothing to anybody: the checker of `certificate`
 // tries what it proposes, and declines a bad proposal.
+#![tactic(auto)]
+
 ghost use Rattle.std.specs.Prelude.{◌≡◌};
 ghost use Rattle.std.specs.Float.{binary32};
 ghost use Rattle.proposal.specs.Proposal.{whole_part, grid_number, reach, proposed};

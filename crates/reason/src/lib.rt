@@ -1,4 +1,6 @@
 // Why the run of each record of a case file ended (document 02, ticket 5): a line for each record that reached the polytope.
+#![tactic(auto)]
+
 ghost use Rattle.std.specs.Float.{binary32};
 ghost use Rattle.epa.specs.Final.{all_lent, Ends};
 ghost use Rattle.stream.specs.Reading.{told};

@@ -5,7 +5,7 @@ ghost use Rattle.reason.specs.Reasons.{found_reason, lost_reason, reason_of};
 use epa_polytope::{End, Found, Lost};
 
 // The words of each stand in words.rt.
-#[derive(Drop)]
+#[derive(Clone, Copy)]
 pub enum Reason {
     PanicSite,
     NoRoom,

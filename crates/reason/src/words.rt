@@ -8,7 +8,7 @@ use crate::reasons::Reason;
 use lines::Placed;
 
 // A reason, or none: no run of the polytope was begun.
-#[derive(Drop)]
+#[derive(Clone, Copy)]
 pub enum MaybeReason {
     Some(Reason),
     None,

@@ -1,6 +1,8 @@
 // Why the run of each record ended: a case file on standard input, and on standard output a line for each record that reached
 // the polytope (document 02, ticket 5). What is read and written for a record is `reason::reason_next`, and what moves the
 // bytes is `pipes`. The stores are those that `separation` lends.
+#![tactic(auto)]
+
 use pipes::{Ready, State};
 
 // `reason_next` takes no more than 4,294,967,295 records; the loop goes one further and so ends by itself.

@@ -12,7 +12,7 @@ use crate::location::Location;
 use simplex::VoronoiSimplex;
 
 // Of `apply_location`: the location is taken; refusal 7, the simplex has no such location; refusal 2, the value is no simplex.
-#[derive(Drop)]
+#[derive(Clone, Copy)]
 pub enum Application {
     Taken,
     NoSuchLocation,
@@ -20,14 +20,14 @@ pub enum Application {
 }
 
 // What is refused hands the simplex back as it came in.
-#[derive(Drop)]
+#[derive(Clone, Copy)]
 pub struct Applied {
     pub simplex: VoronoiSimplex,
     pub outcome: Application,
 }
 
 // Which vertices move: none; two change places; 0 with 2 and 1 with 3; or the last is written over one.
-#[derive(Drop)]
+#[derive(Clone, Copy)]
 enum Moves {
     Stay,
     Swap(usize, usize),
@@ -36,7 +36,7 @@ enum Moves {
 }
 
 // What a location asks of a simplex: which vertices move, and the weights and the dimension that are left; and what is told of it.
-#[derive(Drop)]
+#[derive(Clone, Copy)]
 struct Plan {
     moves: Moves,
     proj: [f32; 3],

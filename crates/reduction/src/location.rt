@@ -13,7 +13,7 @@ use tetrahedron::{Tetrahedron, TetrahedronPointLocation, TetrahedronProjection};
 use vector::Vec3;
 
 // A location on a simplex of any dimension: a vertex, an edge with two weights, a face with three, or solid.
-#[derive(Drop)]
+#[derive(Clone, Copy)]
 pub enum Location {
     OnVertex(u32),
     OnEdge(u32, f32, f32),
@@ -22,7 +22,7 @@ pub enum Location {
 }
 
 // Where the origin projects: its point and location. Refused where the value is no simplex, and where the Rust panics.
-#[derive(Drop)]
+#[derive(Clone, Copy)]
 pub enum Projected {
     At(Vec3, Location),
     Refused,

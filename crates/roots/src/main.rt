@@ -1,4 +1,6 @@
 // The known roots, run and proved: what a caller of `number::sqrt` has to say.
+#![tactic(auto)]
+
 ghost use Rattle.std.specs.Prelude.{◌≡◌, not, T};
 ghost use Rattle.std.specs.Float.{binary32};
 ghost use Rattle.std.specs.Float.Ieee.{ne, is_nan, nan_bits, of_bits, to_bits};

@@ -1,6 +1,8 @@
 // The separation channel over case files: standard input to standard output, as document 01 has it ("Case file and
 // vote"). What is read and written for a record is `stream::answer_next`, and what moves the bytes is `pipes`.
 // A read that fails, unlike the file's end, ends the run without the last line, and so does a write that fails.
+#![tactic(auto)]
+
 use lines::Placed;
 use pipes::{Ready, Room, State};
 

@@ -8,7 +8,7 @@ ghost use Rattle.shape.specs.Support.{unit_for, local_support_point, local_suppo
 use crate::vertex::Vertex;
 use vector::{Pose, Vec3};
 
-#[derive(Drop)]
+#[derive(Clone, Copy)]
 pub enum Shape {
     // its radius
     Ball(f32),

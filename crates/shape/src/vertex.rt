@@ -7,7 +7,7 @@ ghost use Rattle.shape.specs.Vertex.{new_vertex, vertex_with_point, single_point
 use vector::Vec3;
 
 #[repr(C)]
-#[derive(Drop)]
+#[derive(Clone, Copy)]
 pub struct Vertex {
     // `orig1 - orig2`, unless the vertex was translated
     pub point: Vec3,

@@ -14,48 +14,48 @@ use shape::Vertex;
 use vector::Vec3;
 
 // Of `swap`, `reset` and `modify_pnts`.
-#[derive(Drop)]
+#[derive(Clone, Copy)]
 pub enum Outcome {
     Done,
     Refused,
 }
 
-#[derive(Drop)]
+#[derive(Clone, Copy)]
 pub struct Altered {
     pub simplex: VoronoiSimplex,
     pub outcome: Outcome,
 }
 
 // Of `add_point` and `contains_point`.
-#[derive(Drop)]
+#[derive(Clone, Copy)]
 pub enum Answer {
     Yes,
     No,
     Refused,
 }
 
-#[derive(Drop)]
+#[derive(Clone, Copy)]
 pub struct Added {
     pub simplex: VoronoiSimplex,
     pub answer: Answer,
 }
 
 // A weight, or the greatest squared length.
-#[derive(Drop)]
+#[derive(Clone, Copy)]
 pub enum Scalar {
     Is(f32),
     Refused,
 }
 
 // A dimension.
-#[derive(Drop)]
+#[derive(Clone, Copy)]
 pub enum Dimension {
     Is(usize),
     Refused,
 }
 
 // A vertex.
-#[derive(Drop)]
+#[derive(Clone, Copy)]
 pub enum Corner {
     At(Vertex),
     Refused,

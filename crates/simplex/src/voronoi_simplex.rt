@@ -5,7 +5,7 @@ ghost use Rattle.simplex.specs.Simplex.{new_simplex, is_simplex};
 use shape::Vertex;
 
 #[repr(C)]
-#[derive(Drop)]
+#[derive(Clone, Copy)]
 pub struct VoronoiSimplex {
     pub prev_vertices: [usize; 4],
     pub prev_proj: [f32; 3],

@@ -7,7 +7,7 @@ ghost use Rattle.reduction.specs.Reduction.{project_origin_and_reduce};
 use reduction::Projected;
 use simplex::VoronoiSimplex;
 
-#[derive(Drop)]
+#[derive(Clone, Copy)]
 pub struct Reduced {
     pub simplex: VoronoiSimplex,
     pub projection: Projected,

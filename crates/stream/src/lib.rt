@@ -1,5 +1,7 @@
 // A case file read through a window, a record at a time: what one turn puts out. The reading and writing are the program's;
 // what a turn reads and writes is here, on slices.
+#![tactic(auto)]
+
 ghost use Rattle.std.specs.Prelude.{◌≡◌};
 ghost use Rattle.std.specs.Float.{binary32};
 ghost use Rattle.epa.specs.Final.{all_lent, Ends};
@@ -13,7 +15,7 @@ use window::{Turn, bad_turn, line_turn};
 pub const MOST_RECORDS: u64 = 4_294_967_295;
 
 // What reading comes to.
-#[derive(Drop)]
+#[derive(Clone, Copy)]
 pub enum Next {
     // A record to answer, and the place after it.
     Whole { case: Case, next: usize },

@@ -1,5 +1,7 @@
 // The projection of a point on a tetrahedron, taken as solid, and where on it the projection lies (point_tetrahedron.rs).
 // The tests stand in the Rust's order, and the first that holds answers.
+#![tactic(auto)]
+
 ghost use Rattle.std.specs.Prelude.{◌≡◌};
 ghost use Rattle.std.specs.Float.{binary32};
 ghost use Rattle.number.specs.Told.{Told};
@@ -14,7 +16,7 @@ use locals::{Differences, Dots, EdgeCheck, Edges, MaybeProjection, Sides};
 use vector::{MaybeVec3, Vec3};
 
 #[repr(C)]
-#[derive(Drop)]
+#[derive(Clone, Copy)]
 pub struct Tetrahedron {
     pub a: Vec3,
     pub b: Vec3,
@@ -24,7 +26,7 @@ pub struct Tetrahedron {
 
 // At a corner; on an edge (0: ab, 1: ac, 2: ad, 3: bc, 4: bd, 5: cd) with the weights of its ends; on
 // a face (0: abc, 1: abd, 2: acd, 3: bcd) with those of its corners; or inside.
-#[derive(Drop)]
+#[derive(Clone, Copy)]
 pub enum TetrahedronPointLocation {
     OnVertex(u32),
     OnEdge(u32, f32, f32),
@@ -33,7 +35,7 @@ pub enum TetrahedronPointLocation {
 }
 
 // The projection and its location, or a refusal where the Rust asserts.
-#[derive(Drop)]
+#[derive(Clone, Copy)]
 pub enum TetrahedronProjection {
     At(Vec3, TetrahedronPointLocation),
     Refused,

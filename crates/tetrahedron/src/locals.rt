@@ -7,14 +7,14 @@ use crate::TetrahedronProjection;
 use vector::Vec3;
 
 // The Rust's `Option<(PointProjection, TetrahedronPointLocation)>`; a refusal stands in `Some`, since it ends the search too.
-#[derive(Drop)]
+#[derive(Clone, Copy)]
 pub enum MaybeProjection {
     Some(TetrahedronProjection),
     None,
 }
 
 // The Rust's locals: the edges, and the way to `pt` from each corner.
-#[derive(Drop)]
+#[derive(Clone, Copy)]
 pub struct Differences {
     pub ab: Vec3,
     pub ac: Vec3,
@@ -29,7 +29,7 @@ pub struct Differences {
 }
 
 // The Rust's locals of the same names.
-#[derive(Drop)]
+#[derive(Clone, Copy)]
 pub struct Dots {
     pub ap_ab: f32,
     pub ap_ac: f32,
@@ -46,7 +46,7 @@ pub struct Dots {
 }
 
 // The normals that the Rust names `nabc`, `nabd`, `nacd` and `nbcd`.
-#[derive(Drop)]
+#[derive(Clone, Copy)]
 pub struct Normals {
     pub abc: Vec3,
     pub abd: Vec3,
@@ -55,7 +55,7 @@ pub struct Normals {
 }
 
 // What `check_edge` returns: the Rust's triple.
-#[derive(Drop)]
+#[derive(Clone, Copy)]
 pub struct EdgeCheck {
     pub dabc: f32,
     pub dabd: f32,
@@ -63,7 +63,7 @@ pub struct EdgeCheck {
 }
 
 // What the six calls of `check_edge` return.
-#[derive(Drop)]
+#[derive(Clone, Copy)]
 pub struct Edges {
     pub ab: EdgeCheck,
     pub ac: EdgeCheck,
@@ -74,7 +74,7 @@ pub struct Edges {
 }
 
 // The numbers of the six edges under the names that the Rust gives them.
-#[derive(Drop)]
+#[derive(Clone, Copy)]
 pub struct Sides {
     pub dabc: f32,
     pub dabd: f32,

@@ -7,7 +7,7 @@ use crate::vec3::Vec3;
 
 // A quaternion.
 #[repr(C)]
-#[derive(Drop)]
+#[derive(Clone, Copy)]
 pub struct Rotation {
     pub x: f32,
     pub y: f32,
@@ -16,7 +16,7 @@ pub struct Rotation {
 }
 
 #[repr(C)]
-#[derive(Drop)]
+#[derive(Clone, Copy)]
 pub struct Pose {
     pub rotation: Rotation,
     pub translation: Vec3,

@@ -7,7 +7,7 @@ ghost use Rattle.vector.specs.Vector.{normalize_v, try_normalize_v, normalize_or
 ghost use Rattle.vector.specs.Vector.{vec3, component_v, with_component_v, equal_v};
 
 #[repr(C)]
-#[derive(Drop)]
+#[derive(Clone, Copy)]
 pub struct Vec3 {
     pub x: f32,
     pub y: f32,
@@ -15,7 +15,7 @@ pub struct Vec3 {
 }
 
 // Which of the three components is meant: the Rust's index, which is 0, 1 or 2.
-#[derive(Drop)]
+#[derive(Clone, Copy)]
 pub enum Axis {
     X,
     Y,
@@ -23,7 +23,7 @@ pub enum Axis {
 }
 
 // The Rust's `Option<Vec3>`.
-#[derive(Drop)]
+#[derive(Clone, Copy)]
 pub enum MaybeVec3 {
     Some(Vec3),
     None,
@@ -31,7 +31,7 @@ pub enum MaybeVec3 {
 
 // What `normalize_and_length` returns: the Rust's pair.
 #[repr(C)]
-#[derive(Drop)]
+#[derive(Clone, Copy)]
 pub struct UnitAndLength {
     pub normalized: Vec3,
     pub length: f32,

@@ -1,5 +1,7 @@
 // The vote of three channels: two answers out of three that agree. What each function returns is a definition
 // of specs/Vote.antt, which carries document 01's rule as tickets 3 and 4 have it.
+#![tactic(auto)]
+
 ghost use Rattle.std.specs.Prelude.{◌≡◌};
 ghost use Rattle.std.specs.Float.{binary32};
 ghost use Rattle.number.specs.Told.{Told};
@@ -11,7 +13,7 @@ use vector::Vec3;
 // A type of its own, laid out for C: the voter depends on no channel and no printer, and a channel on no voter. The crate
 // `answers`, which depends on both, turns the counts of `lines` into these.
 #[repr(C)]
-#[derive(Drop)]
+#[derive(Clone, Copy)]
 pub struct Counts {
     pub expansions: usize,
     pub made: usize,
@@ -22,7 +24,7 @@ pub struct Counts {
 
 // What a channel answers. Floats and counts that the outcome hasn't got are zero.
 #[repr(C)]
-#[derive(Drop)]
+#[derive(Clone, Copy)]
 pub struct Answer {
     // its letter, of D M S P N X R; the vote asks only whether two are the same
     pub outcome: u8,
@@ -32,7 +34,7 @@ pub struct Answer {
     pub counts: Counts,
 }
 
-#[derive(Drop)]
+#[derive(Clone, Copy)]
 pub enum Verdict {
     // The answer of two channels that agree, and the number of the odd one, 0 where there is none.
     Agreed { answer: Answer, odd: usize },

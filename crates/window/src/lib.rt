@@ -1,4 +1,6 @@
 // The window that a case file is read through, how what is not read of it comes to the start of its buffer, and what a turn did.
+#![tactic(auto)]
+
 ghost use Rattle.std.specs.Prelude.{◌≡◌};
 ghost use Rattle.window.specs.Window.{offset_of, rest_of, moved_of, front_of, line_turn, bad_turn};
 
@@ -6,7 +8,7 @@ use lines::Placed;
 
 // The part of the file that is in a buffer: the offset of the buffer's first byte in the file, the place of the next
 // record, the end of what was read, and whether the file ends there.
-#[derive(Drop)]
+#[derive(Clone, Copy)]
 pub struct Window {
     pub base: u64,
     pub from: usize,
@@ -59,7 +61,7 @@ pub fn to_front(bytes: &mut [u8], from: usize, until: usize)
 }
 
 // What one turn did.
-#[derive(Drop)]
+#[derive(Clone, Copy)]
 pub enum Turn {
     // A record's line was written: the place of the next record, and of the next line.
     Line { next: usize, place: usize },

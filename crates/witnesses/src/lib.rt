@@ -1,4 +1,6 @@
 // `result` of gjk.rs: the two witness points, weighted over the vertices of a simplex.
+#![tactic(auto)]
+
 ghost use Rattle.std.specs.Prelude.{◌≡◌, ◌≤◌};
 ghost use Rattle.std.specs.Float.{binary32};
 ghost use Rattle.number.specs.Told.{Told};
@@ -7,7 +9,7 @@ ghost use Rattle.witnesses.specs.Witnesses.{weight_of, corner_of, last_of, with_
 use simplex::{Corner, Scalar, VoronoiSimplex};
 use vector::Vec3;
 
-#[derive(Drop)]
+#[derive(Clone, Copy)]
 pub enum Witnesses {
     At(Vec3, Vec3),
     Refused,

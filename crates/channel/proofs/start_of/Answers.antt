@@ -1,0 +1,8 @@
+-- What `start_of` returns. Assumes nothing.
+use lib.Ieee.{binary32}
+use Rattle.epa_polytope.proofs.Doing.{place}
+use Rattle.channel.proofs.Separating.{started}
+use Rattle.channel.proofs.start_of.Goals as goal
+
+pub returns : goal.returns
+returns c = started binary32 _ _ _ _ c.from_shapes-first.ensures c.new.ensures c.reset-reset.ensures.answer

@@ -1,0 +1,11 @@
+use mathlib.Core.Path.{◌∙◌}
+use borrow.Author.Rules.{rules}
+use Rattle.epa_polytope.proofs.Doing.{place}
+use Rattle.epa_polytope.proofs.Popping.{PopLoop, pop-starts, pop-empty, pop-live, pop-less, pop-again}
+use Rattle.epa.proofs.expansions.pop_live.Given as goal
+
+abbrev pub invariant-loop-face : goal.invariant-loop-face
+invariant-loop-face l = PopLoop l.deleted l.initial.heap_ids l.initial.heap_keys l.initial.tally l.heap_ids l.heap_keys l.tally
+
+abbrev pub decreases-loop-face : goal.decreases-loop-face
+decreases-loop-face l = l.tally.heap

@@ -1,0 +1,7 @@
+-- `clear_edges` does what `clear_edges` does: the edges' pairs are zero, and none is counted. Assumes nothing.
+use Rattle.epa_polytope.proofs.Doing.{place}
+use Rattle.epa_polytope.proofs.Expanding.{edges-cleared}
+use Rattle.epa_expansion.proofs.ring.clear_edges.Goals as goal
+
+pub returns : goal.returns
+returns c k = edges-cleared _ _ c.clear_pairs.ensures

@@ -1,0 +1,18 @@
+-- A question goes in: nothing is done after one that was refused, and where there is room it takes the next place. Assumes nothing.
+use mathlib.Core.Path.{◌∙◌}
+use borrow.Author.Rules.{rules}
+use native.Mathlib.Nat.{add-zero}
+use Rattle.epa_polytope.proofs.Doing.{place}
+use Rattle.epa_polytope.proofs.PlainLoop.{in-short, in-placed, in-refused}
+use Rattle.epa_plain_walk.proofs.put_in.Goals as goal
+
+pub returns-then-sofar : goal.returns-then-sofar
+returns-then-sofar c = in-short _ _ c.if-sofar.true
+
+pub returns-then-sofar-pending : goal.returns-then-sofar-pending
+returns-then-sofar-pending c =
+    in-placed _ _ c.if-sofar.left c.if-sofar-pending.taken
+    (simp (c.set_pair_at.ensures, c.set_pair_at-then-sofar-pending.ensures, add-zero))
+
+pub returns-else-sofar-pending : goal.returns-else-sofar-pending
+returns-else-sofar-pending c = in-refused _ _ c.if-sofar.left c.if-sofar-pending.left

@@ -1,0 +1,11 @@
+-- A turn: the last question comes out, and is answered. Assumes nothing.
+use mathlib.Core.Path.{◌∙◌}
+use borrow.Author.Rules.{rules}
+use Rattle.epa_polytope.proofs.Doing.{place}
+use Rattle.epa_polytope.proofs.PlainLoop.{turn-made}
+use Rattle.epa_plain_walk.proofs.take_turn.Goals as goal
+
+pub returns : goal.returns
+returns c k =
+    turn-made _ _ _ _ _ _ _ c.pre c.question_at-q.ensures c.clear_at.ensures
+    (c.answer_question.ensures k)

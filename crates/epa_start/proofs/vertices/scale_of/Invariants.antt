@@ -1,0 +1,18 @@
+use native.Mathlib.Omega.{arith}
+use borrow.Author.Rules.{rules}
+use mathlib.Core.Path.{◌≡◌, ap, ◌∙◌}
+use Prim.Native.Nat.{◌≤◌, ◌-◌}
+use lib.Ieee.{binary32, of_bits}
+use Rattle.epa_polytope.specs.Start.{scale_of}
+use Rattle.epa_polytope.proofs.Doing.{place}
+use Rattle.epa_polytope.proofs.Starting.{ScaleLoop, scale-start, scale-grown}
+use Rattle.epa_start.proofs.vertices.scale_of.Given as goal
+
+abbrev pub invariant-loop-i : goal.invariant-loop-i
+invariant-loop-i l = record {
+  within : l.i ≤ l.n;
+  so_far : ScaleLoop binary32 l.vertices l.i l.greatest;
+}
+
+abbrev pub decreases-loop-i : goal.decreases-loop-i
+decreases-loop-i l = l.n - l.i

@@ -1,0 +1,13 @@
+use native.Mathlib.Omega.{arith}
+use borrow.Author.Rules.{rules}
+use Prim.Native.Nat.{◌-◌, ◌<◌}
+use Rattle.epa_polytope.specs.Promises.{single_world}
+use Rattle.epa_polytope.proofs.Doing.{place}
+use Rattle.epa_polytope.proofs.Searching.{SearchLoop, search-starts, found, passed-by, none_left}
+use Rattle.epa_start.proofs.vertices.second_vertex.Given as goal
+
+abbrev pub invariant-loop-i : goal.invariant-loop-i
+invariant-loop-i l = SearchLoop (single_world l.pos12 l.g1 l.g2) l.p 6 l.i
+
+abbrev pub decreases-loop-i : goal.decreases-loop-i
+decreases-loop-i l = 6 - l.i

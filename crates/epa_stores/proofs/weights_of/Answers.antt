@@ -1,0 +1,13 @@
+-- What `weights_of` returns. Assumes nothing.
+use borrow.Author.Rules.{rules}
+use borrow.Author.Tests.{le-ltb, lt-ltb}
+use Rattle.epa_polytope.specs.Stores.{weights_of}
+use Rattle.epa_stores.proofs.weights_of.Goals as goal
+
+pub returns-then-i-floats : goal.returns-then-i-floats
+unfolding weights_of
+returns-then-i-floats c = simp (← c.vec_at.ensures, lt-ltb _ _ c.if-i-floats.true)
+
+pub returns : goal.returns
+unfolding weights_of
+returns c = simp (← c.nowhere.ensures, le-ltb _ _ c.if-i-floats.false)

@@ -1,0 +1,17 @@
+-- The last line of each way to stop. Assumes nothing.
+use Rattle.std.proofs.Common.{arith, rules}
+use Rattle.lines.proofs.Puts.{nothing}
+use Rattle.figures.specs.Campaign.{stop_text}
+use Rattle.figures.proofs.text.put_stop.Goals as goal
+
+pub returns-in-File : goal.returns-in-File
+unfolding stop_text
+returns-in-File c = rw c.in-File.is (nothing _ _)
+
+pub returns-in-Bad : goal.returns-in-Bad
+unfolding stop_text
+returns-in-Bad c = let s : tie.After-stop = search in let b : tie.After-put-bad = search in rw s.in-Bad.is b.put_bad.ensures
+
+pub returns-in-TooMany : goal.returns-in-TooMany
+unfolding stop_text
+returns-in-TooMany c = let s : tie.After-enum-told2 = search in let b : tie.After-put-text = search in rw s.in-TooMany.is b.put_text.ensures

@@ -1,0 +1,20 @@
+-- `start_of` returns `start_of`: the two operations in turn are the reduction.
+use borrow.Author.Rules.{rules}
+use lib.Ieee.{of_bits}
+use Rattle.number.specs.Root.{root}
+use Rattle.reduction.proofs.Fits.{both-in-turn}
+use Rattle.gjk.specs.Gjk.{first_round, start_of}
+use Rattle.gjk.specs.Carried.{result_by}
+use Rattle.gjk.proofs.rounds.start_of.Goals as goal
+
+pub returns-in_default : goal.returns-in_default
+unfolding start_of first_round result_by of_bits
+returns-in_default c = simp (both-in-turn, ← c.project_origin-found.ensures.answer, c.ended.ensures, c.in_default.is)
+
+pub returns-in_default-unit : goal.returns-in_default-unit
+unfolding start_of first_round result_by of_bits
+returns-in_default-unit c = simp (both-in-turn, ← c.project_origin-found.ensures.answer, ← c.apply_location-applied.ensures.answer, ← c.try_normalize-unit.ensures, c.ended-in_default-unit.ensures, c.in_default-unit.is, c.in-At.is)
+
+pub returns : goal.returns
+unfolding start_of first_round result_by of_bits root
+returns c = simp (both-in-turn, ← c.project_origin-found.ensures.answer, ← c.apply_location-applied.ensures.answer, ← c.try_normalize-unit.ensures, ← c.largest-largest.ensures, ← c.neg.ensures, c.onward.ensures, c.in-Some.is, c.in-At.is)

@@ -1,0 +1,16 @@
+use Prim.Native.Nat.{◌+◌, ◌-◌, ◌*◌, ◌<◌}
+use mathlib.Core.Path.{◌≡◌, refl, sym, ap, ◌∙◌}
+use native.Mathlib.Omega.{arith}
+use borrow.Author.Rules.{rules}
+use lib.ListN.{length}
+use Rattle.heap.specs.Heap.{Heap, heap, placed, sink}
+use Rattle.heap.proofs.Steps.{sink-deeper, sink-only, sink-bottom, greater-low, greater-high}
+use Rattle.heap.proofs.sift.sink.Given as goal
+
+abbrev pub invariant-loop-child : goal.invariant-loop-child
+invariant-loop-child l =
+    (length l.faces ≡ length l.initial.faces) × (length l.keys ≡ length l.initial.keys) × (l.at < l.count) × (l.child ≡ l.at * 2 + 1)
+    × (sink (heap l.faces l.keys l.count) l.at ≡ sink (heap l.initial.faces l.initial.keys l.count) 0)
+
+abbrev pub decreases-loop-child : goal.decreases-loop-child
+decreases-loop-child l = l.count - l.at

@@ -1,0 +1,28 @@
+-- `write_line` places the line: what `put_line` left in the first places of the local array. Assumes nothing.
+use mathlib.Core.Path.{sym, ap, ◌∙◌}
+use native.Mathlib.Omega.{arith}
+use borrow.Author.Rules.{rules}
+use lib.Ieee.{binary32}
+use lib.Seq.{length-take-le}
+use Rattle.lines.specs.Text.{place_of}
+use Rattle.lines.proofs.Lengths.{line-length}
+use Rattle.lines.proofs.Puts.{front}
+use Rattle.lines.proofs.line.write_line.Goals as goal
+
+pub slice_bounds-line-end : goal.slice_bounds-line-end
+slice_bounds-line-end c =
+    let p = c in
+    let a = p.args in
+    omega (arith, p.put_line-n.ensures.place, line-length binary32 a.number a.outcome)
+
+pub slice_bounds-place-end : goal.slice_bounds-place-end
+slice_bounds-place-end c =
+    let p = c in
+    let a = p.args in
+    sym (length-take-le _ _ (omega (arith, p.put_line-n.ensures.place, line-length binary32 a.number a.outcome)))
+
+pub returns : goal.returns
+returns c =
+    let p = c in
+    let a = p.args in
+    c.place.ensures ∙ ap (place_of a.out.now a.at) (front p.put_line-n.ensures (omega (arith, line-length binary32 a.number a.outcome)))

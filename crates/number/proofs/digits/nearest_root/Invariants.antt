@@ -1,0 +1,12 @@
+use borrow.Author.Rules.{rules}
+use Prim.Native.Nat.{◌≤◌, ◌^◌}
+use mathlib.Core.Logic.{⊎_elim}
+use native.Mathlib.Omega.{arith}
+use Rattle.number.proofs.Schoolbook.{Found, Root, first, one-next, zero-next, all, round_up, round-down}
+use Rattle.number.proofs.digits.nearest_root.Given as goal
+
+abbrev pub invariant-loop-c : goal.invariant-loop-c
+invariant-loop-c l = Found l.n l.rest l.p l.c × (l.p ≤ 2 ^ 47) × (l.c ≤ 2 ^ 46)
+
+abbrev pub decreases-loop-c : goal.decreases-loop-c
+decreases-loop-c l = l.c

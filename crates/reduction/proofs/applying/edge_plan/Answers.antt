@@ -1,0 +1,6 @@
+-- `edge_plan` returns `edge_plan`.
+use borrow.Author.Rules.{rules}
+use Rattle.reduction.proofs.applying.edge_plan.Goals as goal
+
+pub returns : goal.returns
+returns c = c.taken.ensures

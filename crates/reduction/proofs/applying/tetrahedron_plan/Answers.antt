@@ -1,0 +1,27 @@
+-- `tetrahedron_plan` plans `reduce_tetrahedron`, location by location.
+use mathlib.Core.Path.{refl}
+use borrow.Author.Rules.{rules}
+use native.Mathlib.Omega.{arith}
+use Rattle.simplex.specs.Simplex.{swap_in}
+use Rattle.reduction.specs.Reduction.{place_in, to_first, to_vertex, reduce_tetrahedron}
+use Rattle.reduction.specs.Plan.{moved_by, carried_out}
+use Rattle.reduction.proofs.Has.{corner-below}
+use Rattle.reduction.proofs.applying.tetrahedron_plan.Goals as goal
+
+pub returns-in-OnVertex : goal.returns-in-OnVertex
+unfolding reduce_tetrahedron to_vertex to_first place_in carried_out moved_by swap_in
+returns-in-OnVertex c s =
+    let corner = corner-below 3 _ _ (omega arith) c.in-OnVertex.is c.requires in
+    simp (c.vertex_plan.ensures, c.in-OnVertex.is) (record { there = (omega arith, corner); gives = refl })
+
+pub returns-in-OnEdge : goal.returns-in-OnEdge
+unfolding reduce_tetrahedron
+returns-in-OnEdge c s = simp c.in-OnEdge.is (c.tetrahedron_edge.ensures s)
+
+pub returns-in-OnFace : goal.returns-in-OnFace
+unfolding reduce_tetrahedron
+returns-in-OnFace c s = simp c.in-OnFace.is (c.tetrahedron_face.ensures s)
+
+pub returns-in-OnSolid : goal.returns-in-OnSolid
+unfolding reduce_tetrahedron place_in carried_out moved_by
+returns-in-OnSolid c s = simp (c.taken.ensures, c.in-OnSolid.is) (record { there = tt; gives = refl })

@@ -1,0 +1,8 @@
+-- `vertex_plan` returns `vertex_plan`.
+use borrow.Author.Rules.{rules}
+use lib.Ieee.{of_bits}
+use Rattle.reduction.proofs.applying.vertex_plan.Goals as goal
+
+pub returns : goal.returns
+unfolding of_bits
+returns c = c.taken.ensures

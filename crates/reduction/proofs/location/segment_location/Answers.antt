@@ -1,0 +1,12 @@
+-- `segment_location` returns `segment_location`, case by case.
+use borrow.Author.Rules.{rules}
+use Rattle.reduction.specs.Reduction.{segment_location}
+use Rattle.reduction.proofs.location.segment_location.Goals as goal
+
+pub returns-in-OnVertex : goal.returns-in-OnVertex
+unfolding segment_location
+returns-in-OnVertex c = simp c.in-OnVertex.is
+
+pub returns-in-OnEdge : goal.returns-in-OnEdge
+unfolding segment_location
+returns-in-OnEdge c = simp c.in-OnEdge.is

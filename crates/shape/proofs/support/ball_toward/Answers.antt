@@ -1,0 +1,7 @@
+-- `ball_toward` returns `ball_toward`.
+use Rattle.shape.specs.Support.{ball_toward}
+use Rattle.shape.proofs.support.ball_toward.Goals as goal
+
+pub returns : goal.returns
+unfolding ball_toward
+returns c = simp (← c.scale.ensures, ← c.add.ensures)

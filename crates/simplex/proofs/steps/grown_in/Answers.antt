@@ -1,0 +1,9 @@
+-- `grown_in` returns `grown_in`, write by write.
+use mathlib.Core.Path.{refl}
+use borrow.Author.Rules.{rules}
+use Rattle.simplex.specs.Simplex.{grown_in}
+use Rattle.simplex.proofs.steps.grown_in.Goals as goal
+
+pub returns : goal.returns
+unfolding grown_in
+returns c = refl

@@ -1,0 +1,9 @@
+-- `reset_in` returns `reset_in`, write by write.
+use mathlib.Core.Path.{refl}
+use borrow.Author.Rules.{rules}
+use Rattle.simplex.specs.Simplex.{reset_in}
+use Rattle.simplex.proofs.steps.reset_in.Goals as goal
+
+pub returns : goal.returns
+unfolding reset_in
+returns c = refl

@@ -1,0 +1,9 @@
+-- `swap_in` returns `swap_in`, write by write.
+use mathlib.Core.Path.{refl}
+use borrow.Author.Rules.{rules}
+use Rattle.simplex.specs.Simplex.{swap_in}
+use Rattle.simplex.proofs.steps.swap_in.Goals as goal
+
+pub returns : goal.returns
+unfolding swap_in
+returns c = refl

@@ -1,0 +1,7 @@
+-- `Tetrahedron::face_acd` returns `face_acd`: one call of `check_face`.
+use Rattle.tetrahedron.specs.Tetrahedron.{face_acd}
+use Rattle.tetrahedron.proofs.Tetrahedron.face_acd.Goals as goal
+
+pub returns : goal.returns
+unfolding face_acd
+returns c = simp (← c.check_face.ensures)

@@ -1,0 +1,11 @@
+-- `Vec3::try_normalize` returns `try_normalize_v`, by the two arms of its test.
+use Rattle.vector.specs.Vector.{try_normalize_v}
+use Rattle.vector.proofs.vec3.Vec3.try_normalize.Goals as goal
+
+pub returns-then-is_usable : goal.returns-then-is_usable
+unfolding try_normalize_v
+returns-then-is_usable c = simp (← c.length_recip-recip.ensures, ← c.is_usable.ensures, ← c.scale.ensures, c.if-is_usable.true)
+
+pub returns-else-is_usable : goal.returns-else-is_usable
+unfolding try_normalize_v
+returns-else-is_usable c = simp (← c.length_recip-recip.ensures, ← c.is_usable.ensures, c.if-is_usable.false)

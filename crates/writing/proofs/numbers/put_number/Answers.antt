@@ -1,0 +1,8 @@
+-- A number is `encode`: at most five groups. Assumes nothing.
+use borrow.Author.Rules.{rules}
+use Rattle.casefile.specs.Numbers.{encode}
+use Rattle.writing.proofs.numbers.put_number.Goals as goal
+
+pub returns : goal.returns
+unfolding encode
+returns c = c.put_groups.ensures
