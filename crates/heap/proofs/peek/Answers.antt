@@ -1,9 +1,7 @@
 -- `peek` is `peek_of`, test by test; so it is told as that.
-use Rattle.std.proofs.Common.{ap}
 use Prim.Native.Nat.{◌-◌}
 use mathlib.Core.Path.{sym}
 use native.Mathlib.Omega.{arith}
-use borrow.Author.Rules.{rules}
 use Rattle.number.proofs.Told.{told}
 use Rattle.heap.specs.Heap.{heap}
 use Rattle.heap.proofs.Answers.{peek-empty, peek-first, peek-no-room}

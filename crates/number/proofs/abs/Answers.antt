@@ -1,6 +1,5 @@
 -- `number::abs` meets its contract: what has the minus sign is negated, and any other value has no sign to lose. Assumes nothing.
 use mathlib.Core.Path.{sym, ◌∙◌}
-use borrow.Author.Rules.{rules}
 use Rattle.number.proofs.Values.{turned, kept}
 use Rattle.number.proofs.abs.Goals as goal
 

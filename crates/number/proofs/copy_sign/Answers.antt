@@ -1,5 +1,4 @@
 -- `number::copy_sign` meets its contract: the size, negated where the sign has a minus. Assumes nothing.
-use borrow.Author.Rules.{rules}
 use Rattle.number.specs.Small.{absolute, copy_sign}
 use Rattle.number.proofs.Values.{negated}
 use Rattle.number.proofs.copy_sign.Goals as goal

@@ -1,5 +1,4 @@
 -- `number::eps_tol` meets its contract: `epsilon` times 10, one rounding. Assumes nothing.
-use borrow.Author.Rules.{rules}
 use lib.Ieee.{of_bits}
 use Rattle.number.specs.Constants.{eps_tol}
 use Rattle.number.proofs.eps_tol.Goals as goal

@@ -1,5 +1,4 @@
 -- `number::max` meets its contract: the code's tests are those of `larger`, in its order. Assumes nothing.
-use borrow.Author.Rules.{rules}
 use lib.Ieee.{is_nan}
 use Rattle.number.specs.Small.{larger}
 use Rattle.number.proofs.Values.{is-nan, no_nan}

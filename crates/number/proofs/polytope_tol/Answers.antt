@@ -1,5 +1,4 @@
 -- `number::polytope_tol` meets its contract: `epsilon` times 100, one rounding. Assumes nothing.
-use borrow.Author.Rules.{rules}
 use lib.Ieee.{of_bits}
 use Rattle.number.specs.Constants.{polytope_tol}
 use Rattle.number.proofs.polytope_tol.Goals as goal

@@ -1,5 +1,4 @@
 -- `greater` is the definition's, by its one test.
-use borrow.Author.Rules.{rules}
 use Rattle.heap.specs.Heap.{greater}
 use Rattle.heap.proofs.sift.greater.Goals as goal
 

@@ -1,10 +1,8 @@
 -- `rise` is the definition's, whatever the count. The invariant: what is left to rise, of the lists as they are, gives what the whole gives of
 -- the lists as they were. The measure is the place, which the parent's is below.
-use Prim.Native.Nat.{ℕ, ◌-◌, ◌/◌, ◌<◌, min}
-use mathlib.Core.Path.{◌≡◌, refl, sym, ap, ◌∙◌}
+use Prim.Native.Nat.{◌-◌, ◌/◌}
+use mathlib.Core.Path.{refl, sym, ap, ◌∙◌}
 use native.Mathlib.Omega.{arith}
-use borrow.Author.Rules.{rules}
-use lib.ListN.{length}
 use Rattle.heap.specs.Heap.{Heap, heap, rise}
 use Rattle.heap.proofs.Steps.{rise-root, rise-up, rise-stays}
 use Rattle.heap.proofs.sift.rise.Goals as goal

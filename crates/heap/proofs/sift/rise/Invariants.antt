@@ -1,10 +1,7 @@
-use Prim.Native.Nat.{ℕ, ◌-◌, ◌/◌, ◌<◌, min}
-use mathlib.Core.Path.{◌≡◌, refl, sym, ap, ◌∙◌}
-use native.Mathlib.Omega.{arith}
-use borrow.Author.Rules.{rules}
+use Prim.Native.Nat.{ℕ, ◌<◌, min}
+use mathlib.Core.Path.{◌≡◌}
 use lib.ListN.{length}
-use Rattle.heap.specs.Heap.{Heap, heap, rise}
-use Rattle.heap.proofs.Steps.{rise-root, rise-up, rise-stays}
+use Rattle.heap.specs.Heap.{heap, rise}
 use Rattle.heap.proofs.sift.rise.Given as goal
 
 abbrev pub invariant-loop-at : goal.invariant-loop-at

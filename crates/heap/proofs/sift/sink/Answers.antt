@@ -1,10 +1,7 @@
 -- `sink` is the definition's. The invariant: `child` is the left child's place, and what is left to sink, of the lists as they are, gives what the
 -- whole gives of the lists as they were. The measure is how many places are left below.
-use Prim.Native.Nat.{◌+◌, ◌-◌, ◌*◌, ◌<◌}
-use mathlib.Core.Path.{◌≡◌, refl, sym, ap, ◌∙◌}
+use mathlib.Core.Path.{refl, sym, ap, ◌∙◌}
 use native.Mathlib.Omega.{arith}
-use borrow.Author.Rules.{rules}
-use lib.ListN.{length}
 use Rattle.heap.specs.Heap.{Heap, heap, placed, sink}
 use Rattle.heap.proofs.Steps.{sink-deeper, sink-only, sink-bottom, greater-low, greater-high}
 use Rattle.heap.proofs.sift.sink.Goals as goal

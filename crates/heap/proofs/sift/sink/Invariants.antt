@@ -1,10 +1,7 @@
 use Prim.Native.Nat.{◌+◌, ◌-◌, ◌*◌, ◌<◌}
-use mathlib.Core.Path.{◌≡◌, refl, sym, ap, ◌∙◌}
-use native.Mathlib.Omega.{arith}
-use borrow.Author.Rules.{rules}
+use mathlib.Core.Path.{◌≡◌}
 use lib.ListN.{length}
-use Rattle.heap.specs.Heap.{Heap, heap, placed, sink}
-use Rattle.heap.proofs.Steps.{sink-deeper, sink-only, sink-bottom, greater-low, greater-high}
+use Rattle.heap.specs.Heap.{heap, sink}
 use Rattle.heap.proofs.sift.sink.Given as goal
 
 abbrev pub invariant-loop-child : goal.invariant-loop-child

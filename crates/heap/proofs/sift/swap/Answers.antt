@@ -1,7 +1,6 @@
 -- `swap` is the definition's, store by store, whatever the count.
 use mathlib.Core.Path.{refl}
 use native.Mathlib.Omega.{arith}
-use borrow.Author.Rules.{rules}
 use lib.ListN.{length-set}
 use Rattle.heap.specs.Heap.{swap}
 use Rattle.heap.proofs.sift.swap.Goals as goal

@@ -1,9 +1,8 @@
 -- `take_last` is `popped`: what `rise` leaves of what `sink` leaves of the lists with the last entry at the root.
-use Prim.Native.Nat.{◌+◌}
+use Prim.Native.Nat.{ℕ, ◌+◌}
 use mathlib.Core.Path.{sym, ap, ◌∙◌}
 use native.Mathlib.Omega.{arith}
-use borrow.Author.Rules.{rules}
-use lib.Ieee.{of_bits}
+use lib.Ieee.{Float, of_bits}
 use lib.ListN.{length-set}
 use Rattle.heap.specs.Heap.{Placed, heap, rise, settled}
 use Rattle.heap.proofs.Steps.{popped-last, popped-more}
@@ -23,7 +22,7 @@ pub rise-requires : goal.rise-requires
 rise-requires c =
     let s = c in
     let l = sink-inside _ _ _ s.sink-at.ensures s.if-last-gt0.true in
-    omega (arith, l)
+    omega (arith, l, length-set {A = ℕ}, length-set {A = Float})
 
 pub returns-then-last-gt0 : goal.returns-then-last-gt0
 unfolding settled of_bits

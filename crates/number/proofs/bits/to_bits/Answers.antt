@@ -1,5 +1,4 @@
 -- `number::to_bits` meets its contract: only a NaN differs from itself, and its pattern is the one that `to_bits` writes. Assumes nothing.
-use borrow.Author.Rules.{rules}
 use lib.Ieee.{to_bits}
 use Rattle.number.proofs.Values.{is-nan, no_nan}
 use Rattle.number.proofs.bits.to_bits.Goals as goal

@@ -1,9 +1,7 @@
 -- `number::digits::nearest_root` meets its contract. The invariant of its loop: the digits of n's root that stand before the next weight are found, and nothing wraps. The measure is c. Assumes nothing.
 use borrow.Author.Rules.{rules}
-use Prim.Native.Nat.{◌≤◌, ◌^◌}
-use mathlib.Core.Logic.{⊎_elim}
 use native.Mathlib.Omega.{arith}
-use Rattle.number.proofs.Schoolbook.{Found, Root, first, one-next, zero-next, all, round_up, round-down}
+use Rattle.number.proofs.Schoolbook.{Root, first, one-next, zero-next, all, round_up, round-down}
 use Rattle.number.proofs.digits.nearest_root.Goals as goal
 use Rattle.number.proofs.digits.nearest_root.Goals.{After-loop-c, then-rest-t, else-rest-t}
 

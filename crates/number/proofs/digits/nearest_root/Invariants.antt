@@ -1,8 +1,5 @@
-use borrow.Author.Rules.{rules}
 use Prim.Native.Nat.{◌≤◌, ◌^◌}
-use mathlib.Core.Logic.{⊎_elim}
-use native.Mathlib.Omega.{arith}
-use Rattle.number.proofs.Schoolbook.{Found, Root, first, one-next, zero-next, all, round_up, round-down}
+use Rattle.number.proofs.Schoolbook.{Found}
 use Rattle.number.proofs.digits.nearest_root.Given as goal
 
 abbrev pub invariant-loop-c : goal.invariant-loop-c

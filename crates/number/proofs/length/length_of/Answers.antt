@@ -1,6 +1,5 @@
 -- `number::length::length_of` meets its contract: next to 1 the root is read off the pattern (`near-one`), and any other is what `sqrt` ensures. Assumes nothing.
 use Prim.Native.Nat.{ℕ}
-use borrow.Author.Rules.{rules}
 use borrow.Author.Tests.{ltb-true}
 use native.Mathlib.Omega.{arith}
 use lib.Dec.{T, lit<}

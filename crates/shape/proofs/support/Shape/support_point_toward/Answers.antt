@@ -1,6 +1,5 @@
 -- `Shape::support_point_toward` returns `support_point_toward`: a ball by its own rule, the others by the default. Assumes nothing.
 use mathlib.Core.Path.{◌∙◌}
-use borrow.Author.Rules.{rules}
 use Rattle.shape.specs.Support.{ball_or, support_point_toward}
 use Rattle.shape.proofs.Default.{by_default}
 use Rattle.shape.proofs.support.Shape.support_point_toward.Goals as goal

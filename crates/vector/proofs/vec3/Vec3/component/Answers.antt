@@ -1,5 +1,4 @@
 -- `Vec3::component` returns `component_v`, axis by axis.
-use borrow.Author.Rules.{rules}
 use Rattle.vector.specs.Vector.{component_v}
 use Rattle.vector.proofs.vec3.Vec3.component.Goals as goal
 

@@ -1,5 +1,4 @@
 -- `Vec3::with_component` returns `with_component_v`, axis by axis.
-use borrow.Author.Rules.{rules}
 use Rattle.vector.specs.Vector.{with_component_v}
 use Rattle.vector.proofs.vec3.Vec3.with_component.Goals as goal
 
