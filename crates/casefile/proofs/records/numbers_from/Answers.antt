@@ -5,23 +5,15 @@ use native.Mathlib.Omega.{arith}
 use borrow.Author.Rules.{rules}
 use Rattle.casefile.proofs.Words.{Loop, begun, next-read, stopped-bad, stopped-ended, done}
 use Rattle.casefile.proofs.records.numbers_from.Goals as goal
-use Rattle.casefile.proofs.records.numbers_from.Goals.{In-Read}
-
--- what stands at `place`, after a number was read there
-abbrev Number : Type 0
-Number = In-Read
-
-few : (c : Number) → c.before.before.before.before.before.loop-i.i < 11
-few c = omega (arith, c.before.before.before.before.loop-i-test.true, c.before.before.before.before.before.before.before.requires)
 
 pub loop-i-init : goal.loop-i-init
 loop-i-init c = begun _ _ _
 
 pub offset_bounds-words-i : goal.offset_bounds-words-i
-offset_bounds-words-i c = omega (arith, few c)
+offset_bounds-words-i c = omega arith
 
 pub bounds-words-i : goal.bounds-words-i
-bounds-words-i c = few c
+bounds-words-i c = omega arith
 
 pub returns-in-Bad : goal.returns-in-Bad
 returns-in-Bad c = stopped-bad c.loop-i.invariant c.loop-i-test.true (sym c.read_number-answer.ensures.answer ∙ c.in-Bad.is)
@@ -30,7 +22,7 @@ pub returns-in-Ended : goal.returns-in-Ended
 returns-in-Ended c = stopped-ended c.loop-i.invariant c.loop-i-test.true (sym c.read_number-answer.ensures.answer ∙ c.in-Ended.is)
 
 pub overflow_add-i : goal.overflow_add-i
-overflow_add-i c = omega (arith, few c)
+overflow_add-i c = omega arith
 
 pub loop-i-smaller : goal.loop-i-smaller
 loop-i-smaller c = omega (arith, c.loop-i-test.true)

@@ -1,5 +1,6 @@
 -- How many numbers a shape has; from kind 3 on it is a triangle. Assumes nothing.
 use Prim.Native.Nat.{ℕ, zero, suc}
+use Rattle.std.proofs.Common.{arith}
 use mathlib.Core.Path.{◌≡◌, refl}
 use borrow.Author.Rules.{rules}
 use Rattle.casefile.specs.Records.{size_of}
@@ -12,4 +13,4 @@ triangle (suc (suc zero)) a b c = absurd (c refl)
 triangle (suc (suc (suc k))) a b c = refl
 
 pub returns-in_default : goal.returns-in_default
-returns-in_default c = triangle c.args.kind c.in-0.rest.0.0.1 c.in-0.rest.0.1 c.in-0.rest.1
+returns-in_default c = triangle c.args.kind (λ e. omega arith) (λ e. omega arith) (λ e. omega arith)
