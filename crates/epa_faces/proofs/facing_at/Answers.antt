@@ -12,5 +12,5 @@ returns c =
       ← c.next_ccw_pt_id-found.ensures,
       ← c.corner_or_0.ensures,
       ← c.misses.ensures,
-      c.wrapping_add_usize.ensures,
+      c.wrapping_add_usize.ensures.value,
     )

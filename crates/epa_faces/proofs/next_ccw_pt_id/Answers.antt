@@ -11,7 +11,7 @@ returns-then-corner_at-id c = simp (← c.corner_at.ensures, eq-eqb _ _ c.if-cor
 pub returns-then-corner_at-id-2 : goal.returns-then-corner_at-id-2
 unfolding next_ccw_pt_id
 returns-then-corner_at-id-2 c =
-    simp (← c.corner_at.ensures, ← c.corner_at-2.ensures, ne_eqb _ _ c.if-corner_at-id.left, eq-eqb _ _ c.if-corner_at-id-2.true)
+    simp (← c.corner_at.ensures, ← c.corner_at-2.ensures, ne_eqb _ _ c.if-corner_at-id.false, eq-eqb _ _ c.if-corner_at-id-2.true)
 
 pub returns-then-corner_at-id-3 : goal.returns-then-corner_at-id-3
 unfolding next_ccw_pt_id
@@ -20,8 +20,8 @@ returns-then-corner_at-id-3 c =
       ← c.corner_at.ensures,
       ← c.corner_at-2.ensures,
       ← c.corner_at-3.ensures,
-      ne_eqb _ _ c.if-corner_at-id.left,
-      ne_eqb _ _ c.if-corner_at-id-2.left,
+      ne_eqb _ _ c.if-corner_at-id.false,
+      ne_eqb _ _ c.if-corner_at-id-2.false,
       eq-eqb _ _ c.if-corner_at-id-3.true,
     )
 
@@ -32,7 +32,7 @@ returns c =
       ← c.corner_at.ensures,
       ← c.corner_at-2.ensures,
       ← c.corner_at-3.ensures,
-      ne_eqb _ _ c.if-corner_at-id.left,
-      ne_eqb _ _ c.if-corner_at-id-2.left,
+      ne_eqb _ _ c.if-corner_at-id.false,
+      ne_eqb _ _ c.if-corner_at-id-2.false,
       ne_eqb _ _ c.if-corner_at-id-3.false,
     )
