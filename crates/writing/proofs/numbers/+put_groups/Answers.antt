@@ -1,5 +1,5 @@
 -- A number's groups are `encode_in`: each way out is the definition unfolded once. The measure is how many groups may follow. Assumes nothing.
-use Rattle.std.proofs.Common.{ℕ, suc, ◌≡◌, ◌∙◌, ◌-◌, arith}
+use Rattle.std.proofs.Common.{ℕ, suc, ◌≡◌, ◌-◌, arith}
 use Rattle.casefile.proofs.Groups.{encode-cut, encode_one, encode-more, cut_small, rest-small}
 use Rattle.lines.proofs.Puts.{then}
 use Rattle.writing.proofs.numbers.+put_groups.Goals as goal
