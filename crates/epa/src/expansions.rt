@@ -18,7 +18,7 @@ use vector::Pose;
 fn pop_live(deleted: &[u8], heap_ids: &mut [usize], heap_keys: &mut [f32], start: Tally) -> Popped
     requires { HeapWithin start heap_ids.old heap_keys.old }
     ensures { Gives pop_out (pop_live start.heap) start result
-        (λ m k. with_deleted (when m deleted) (with_heap (when m heap_ids) (when m heap_keys) k)) }
+        (λ m k. with_deleted deleted.now (with_heap (when m heap_ids) (when m heap_keys) k)) }
 {
     let mut tally = start;
     loop {

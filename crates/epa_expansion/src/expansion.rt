@@ -1,11 +1,11 @@
 // The polytope grows to a new vertex (of the body of the loop of `EPA::closest_points` what follows the test of the bound): the face is
 // deleted, with those that the vertex sees, and new faces join the vertex to the silhouette.
 ghost use Rattle.std.specs.Prelude.{◌≡◌};
-ghost use Rattle.epa_polytope.specs.Stores.{with_vertices, with_face_ids, with_face_floats, with_deleted, with_edges, with_pending};
+ghost use Rattle.epa_polytope.specs.Stores.{lend, with_vertices, with_face_ids, with_face_floats, with_deleted, with_edges, with_pending};
 ghost use Rattle.epa_polytope.specs.Silhouette.{recorded_of};
 ghost use Rattle.epa_polytope.specs.Code.{finished_of};
 ghost use Rattle.epa_polytope.specs.Expansion.{passed_tally, silhouette, expand};
-ghost use Rattle.epa_polytope.specs.Promises.{Leaves, lent_all, when, single, walk_of};
+ghost use Rattle.epa_polytope.specs.Promises.{Leaves, when, single, walk_of};
 
 use crate::ring::regrow;
 use epa_faces::facing_at;
@@ -66,8 +66,8 @@ fn silhouette(
     face: usize,
 ) -> Step
     ensures { Leaves (silhouette (walk_of plain) single point face) tally result
-        (λ m k. with_vertices (when m vertices) (with_face_ids (when m ids)
-        (with_face_floats (when m floats) (with_deleted (when m deleted) (with_edges (when m edges) (with_pending (when m pending) k)))))) }
+        (λ m k. with_vertices vertices.now (with_face_ids ids.now
+        (with_face_floats floats.now (with_deleted (when m deleted) (with_edges (when m edges) (with_pending (when m pending) k)))))) }
 {
     let a = facing_at(ids, face, 0, tally.missed);
     let b = facing_at(ids, face, 1, a.missed);
@@ -94,7 +94,7 @@ pub fn expand(
     plain: bool,
     expansion: Expansion,
 ) -> Step
-    ensures { Leaves (expand (walk_of plain) single expansion) tally result (λ m. lent_all m vertices ids floats deleted edges heap_ids heap_keys pending) }
+    ensures { Leaves (expand (walk_of plain) single expansion) tally result (λ m k. lend vertices.now (when m ids) (when m floats) (when m deleted) (when m edges) (when m heap_ids) (when m heap_keys) (with_pending (when m pending) k)) }
 {
     let face = expansion.face;
     let point = expansion.point;

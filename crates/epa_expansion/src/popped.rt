@@ -5,7 +5,8 @@ ghost use Rattle.std.specs.Float.{binary32};
 ghost use Rattle.vector.specs.declared.vec3.Vec3.{Vec3};
 ghost use Rattle.shape.specs.declared.vertex.Vertex.{Vertex};
 ghost use Rattle.epa_polytope.specs.Run.{bettered, has_converged, is_stuck, settle, visit};
-ghost use Rattle.epa_polytope.specs.Promises.{Gives, visit_out, entry_of, lent_all, single, single_by, walk_of};
+ghost use Rattle.epa_polytope.specs.Stores.{lend, with_pending};
+ghost use Rattle.epa_polytope.specs.Promises.{Gives, visit_out, entry_of, lent_all, when, single, single_by, walk_of};
 
 use crate::expansion::expand;
 use epa_faces::answer_of;
@@ -63,7 +64,7 @@ fn settle(
     candidate: f32,
 ) -> Visited
     ensures { (supp : Vec3 → Vertex) → Gives visit_out (settle (record { numbers = single; supp = supp; walk_by = walk_of plain }) tol best (entry_of face_id) point candidate) tally result
-        (λ m. lent_all m vertices ids floats deleted edges heap_ids heap_keys pending) }
+        (λ m k. lend vertices.now (when m ids) (when m floats) (when m deleted) (when m edges) (when m heap_ids) (when m heap_keys) (with_pending (when m pending) k)) }
 {
     let face = face_id.id;
     let dist = -face_id.neg_dist;

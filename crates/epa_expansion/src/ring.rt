@@ -1,9 +1,9 @@
 // New faces join the new vertex to the silhouette, and make a ring (of the body of the loop of `EPA::closest_points` what follows the three
 // calls of `compute_silhouette`, to `self.silhouette.clear()`).
 ghost use Rattle.std.specs.Prelude.{◌≡◌};
-ghost use Rattle.epa_polytope.specs.Stores.{with_face_ids, with_edges};
+ghost use Rattle.epa_polytope.specs.Stores.{lend, with_face_ids, with_edges};
 ghost use Rattle.epa_polytope.specs.Expansion.{blank, clear_edges, close_ring, regrow};
-ghost use Rattle.epa_polytope.specs.Promises.{Leaves, lent, when, single};
+ghost use Rattle.epa_polytope.specs.Promises.{Leaves, when, single};
 
 use epa_growth::grow_all;
 use epa_polytope::{End, Expansion, Lost, Step, Tally};
@@ -56,7 +56,7 @@ pub fn regrow(
     tally: Tally,
     expansion: Expansion,
 ) -> Step
-    ensures { Leaves (regrow single expansion) tally result (λ m. lent m vertices ids floats deleted edges heap_ids heap_keys) }
+    ensures { Leaves (regrow single expansion) tally result (λ m. lend vertices.now (when m ids) (when m floats) (when m deleted) (when m edges) (when m heap_ids) (when m heap_keys)) }
 {
     let n = tally.edges;
     if n == 0 {

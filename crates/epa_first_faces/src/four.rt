@@ -82,7 +82,7 @@ fn queue_start(
     holds: bool,
 ) -> Step
     ensures { Leaves (queue_start single tol id holds) tally result
-        (λ m k. with_vertices (when m vertices) (with_face_floats (when m floats) (with_heap (when m heap_ids) (when m heap_keys) k))) }
+        (λ m k. with_vertices vertices.now (with_face_floats floats.now (with_heap (when m heap_ids) (when m heap_keys) k))) }
 {
     if holds {
         let dist = normal_of(floats, id).dot(vertex_at(vertices, id).point);
@@ -105,7 +105,7 @@ fn queue_two(
     h2: bool,
 ) -> Step
     ensures { Leaves (queue_two single tol first h1 second h2) tally result
-        (λ m k. with_vertices (when m vertices) (with_face_floats (when m floats) (with_heap (when m heap_ids) (when m heap_keys) k))) }
+        (λ m k. with_vertices vertices.now (with_face_floats floats.now (with_heap (when m heap_ids) (when m heap_keys) k))) }
 {
     let s1 = queue_start(vertices, floats, heap_ids, heap_keys, tally, tol, first, h1);
     let Step::Onward(tally1) = s1 else {
@@ -130,7 +130,7 @@ fn queue_four(
     h4: bool,
 ) -> Step
     ensures { Leaves (queue_four single tol h1 h2 h3 h4) tally result
-        (λ m k. with_vertices (when m vertices) (with_face_floats (when m floats) (with_heap (when m heap_ids) (when m heap_keys) k))) }
+        (λ m k. with_vertices vertices.now (with_face_floats floats.now (with_heap (when m heap_ids) (when m heap_keys) k))) }
 {
     let s1 = queue_two(
         vertices, floats, heap_ids, heap_keys, tally, tol, 0, h1, 1, h2,

@@ -80,7 +80,7 @@ fn two_faces(
     tally: Tally,
 ) -> Step
     ensures { Leaves (two_faces single) tally result
-        (λ m k. with_vertices (when m vertices) (with_face_ids (when m ids)
+        (λ m k. with_vertices vertices.now (with_face_ids (when m ids)
         (with_face_floats (when m floats) (with_deleted (when m deleted) (with_heap (when m heap_ids) (when m heap_keys) k))))) }
 {
     let m1 = made_of(vertices, 0, 1, 2);

@@ -2,9 +2,9 @@
 #![tactic(auto)]
 
 ghost use Rattle.std.specs.Prelude.{◌≡◌, ◌+◌};
-ghost use Rattle.epa_polytope.specs.Stores.{with_vertices, with_face_ids, with_face_floats, with_deleted, with_heap};
+ghost use Rattle.epa_polytope.specs.Stores.{lend, with_vertices, with_face_ids, with_face_floats, with_deleted, with_heap};
 ghost use Rattle.epa_polytope.specs.Expansion.{queue_new, grow_at, grow, grow_all};
-ghost use Rattle.epa_polytope.specs.Promises.{Leaves, Gives, lent, when, single};
+ghost use Rattle.epa_polytope.specs.Promises.{Leaves, Gives, when, single};
 ghost use Rattle.epa_growth.specs.Growth.{counts, grown_out};
 
 use epa_faces::{answer_of, made_of};
@@ -44,7 +44,7 @@ fn queue_new(
     id: usize,
 ) -> Grown
     ensures { (c : Tally) → Gives (grown_out single expansion id heap c) (queue_new single expansion id) (counts (id + 1) heap c) result
-        (λ m k. with_vertices (when m vertices) (with_face_ids (when m ids) (with_face_floats (when m floats) (with_heap (when m heap_ids) (when m heap_keys) k)))) }
+        (λ m k. with_vertices vertices.now (with_face_ids ids.now (with_face_floats floats.now (with_heap (when m heap_ids) (when m heap_keys) k)))) }
 {
     let pt = vertex_at(vertices, corner_at(ids, id, 0)).point;
     let dist = normal_of(floats, id).dot(pt);
@@ -75,7 +75,7 @@ fn grow_at(
     opp_pt_id: usize,
 ) -> Grown
     ensures { (c : Tally) → Gives (grown_out single expansion new_face_id heap c) (grow_at single expansion face opp_pt_id) (counts new_face_id heap c) result
-        (λ m k. with_vertices (when m vertices) (with_face_ids (when m ids)
+        (λ m k. with_vertices vertices.now (with_face_ids (when m ids)
         (with_face_floats (when m floats) (with_deleted (when m deleted) (with_heap (when m heap_ids) (when m heap_keys) k))))) }
 {
     // `% 3` first, so that no sum overflows; the value is the Rust's
@@ -125,7 +125,7 @@ fn grow(
     i: usize,
 ) -> Grown
     ensures { (c : Tally) → Gives (grown_out single expansion faces heap c) (grow single expansion i) (counts faces heap c) result
-        (λ m. lent m vertices ids floats deleted edges heap_ids heap_keys) }
+        (λ m. lend vertices.now (when m ids) (when m floats) (when m deleted) edges.now (when m heap_ids) (when m heap_keys)) }
 {
     let face = pair_at(edges, i, 0);
     if deleted_at(deleted, face) == 0 {
@@ -161,7 +161,7 @@ pub fn grow_all(
     expansion: Expansion,
     n: usize,
 ) -> Step
-    ensures { Leaves (grow_all single expansion n 0) start result (λ m. lent m vertices ids floats deleted edges heap_ids heap_keys) }
+    ensures { Leaves (grow_all single expansion n 0) start result (λ m. lend vertices.now (when m ids) (when m floats) (when m deleted) edges.now (when m heap_ids) (when m heap_keys)) }
 {
     let mut faces = start.faces;
     let mut heap = start.heap;

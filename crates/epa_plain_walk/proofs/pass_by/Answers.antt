@@ -6,7 +6,7 @@ use Rattle.epa_polytope.proofs.PlainLoop.{recursively, plainly}
 use Rattle.epa_plain_walk.proofs.pass_by.Goals as goal
 
 pub returns-then-plain : goal.returns-then-plain
-returns-then-plain c k = plainly _ _ _ _ _ (ap walk_of c.if-plain.taken) (c.plain_pass.ensures k)
+returns-then-plain c k = plainly _ _ _ _ _ (ap walk_of c.if-plain.true) (c.plain_pass.ensures k)
 
 pub returns : goal.returns
-returns c k = recursively _ _ _ _ _ (ap walk_of c.if-plain.left) (c.pass-walked.ensures k)
+returns c k = recursively _ _ _ _ _ (ap walk_of c.if-plain.false) (c.pass-walked.ensures k)

@@ -1,8 +1,5 @@
 -- A question goes in: nothing is done after one that was refused, and where there is room it takes the next place. Assumes nothing.
-use mathlib.Core.Path.{◌∙◌}
-use borrow.Author.Rules.{rules}
 use native.Mathlib.Nat.{add-zero}
-use Rattle.epa_polytope.proofs.Doing.{place}
 use Rattle.epa_polytope.proofs.PlainLoop.{in-short, in-placed, in-refused}
 use Rattle.epa_plain_walk.proofs.put_in.Goals as goal
 
@@ -11,8 +8,8 @@ returns-then-sofar c = in-short _ _ c.if-sofar.true
 
 pub returns-then-sofar-pending : goal.returns-then-sofar-pending
 returns-then-sofar-pending c =
-    in-placed _ _ c.if-sofar.left c.if-sofar-pending.taken
+    in-placed _ _ c.if-sofar.false c.if-sofar-pending.true
     (simp (c.set_pair_at.ensures, c.set_pair_at-then-sofar-pending.ensures, add-zero))
 
 pub returns-else-sofar-pending : goal.returns-else-sofar-pending
-returns-else-sofar-pending c = in-refused _ _ c.if-sofar.left c.if-sofar-pending.left
+returns-else-sofar-pending c = in-refused _ _ c.if-sofar.false c.if-sofar-pending.false
