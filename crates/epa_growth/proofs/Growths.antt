@@ -26,7 +26,7 @@ use Rattle.epa_growth.specs.declared.Grown.TheVariants.{Nothing, Plain, Queued, 
 
 -- ---- an answer tells of a step
 
-module _ {w : Numbers} {u : Expansion} {faces heap : ℕ} {c : Tally} {a : Act Nil} {l l' : Lists} {from : Tally} (g : Grown) where
+module _ (w : Numbers) (u : Expansion) {faces heap : ℕ} (c : Tally) {a : Act Nil} {l l' : Lists} {from : Tally} (g : Grown) where
   pub tells : Does step_out a l from l' (step_of w u faces heap c l' g) → Does (grown_out w u faces heap c) a l from l' g
   tells h = record { same = h.same }
 
@@ -66,14 +66,14 @@ pub record FaceWritten (w : Numbers) (u : Expansion) (f opp : ℕ) (l : Lists) (
 
 module _ {w : Numbers} {u : Expansion} {f opp : ℕ} {l : Lists} {faces heap : ℕ} {c : Tally} {m : Made} {l' : Lists} {b : Bool} (h : FaceWritten w u f opp l faces heap c m l' b) where
   pub face-refused : b ≡ false → Does (grown_out w u faces heap c) (grow_at w u f opp) l (counts faces heap c) l' NoRoomForFace
-  face-refused t = tells NoRoomForFace (grow-refused (rw t at h.pushes) refl)
+  face-refused t = tells w u c NoRoomForFace (grow-refused (rw t at h.pushes) refl)
 
   pub face-plain : b ≡ true → m.holds ≡ false → Does (grown_out w u faces heap c) (grow_at w u f opp) l (counts faces heap c) l' Plain
-  face-plain t q = tells Plain (grow-plain (rw t at h.pushes) refl q)
+  face-plain t q = tells w u c Plain (grow-plain (rw t at h.pushes) refl q)
 
   pub face-queued : {g : Grown} {l2 : Lists} → b ≡ true → m.holds ≡ true → Does (grown_out w u faces heap c) (queue_new w u faces) l' (counts (faces + 1) heap c) l2 g
       → Does (grown_out w u faces heap c) (grow_at w u f opp) l (counts faces heap c) l2 g
-  face-queued {g} t q does = tells g (grow-queued (rw t at h.pushes) refl q (told g does))
+  face-queued {g} t q does = tells w u c g (grow-queued (rw t at h.pushes) refl q (told w u c g does))
 
 -- ---- all edges: the i-th is done with, and the loop goes on or ends. The lent lists are l0 at first, l before the edge, and l' after it, whatever the others hold
 
@@ -85,11 +85,11 @@ pub record Turn (w : Numbers) (u : Expansion) (all : ℕ) (l0 : Lists → Lists)
 module _ {w : Numbers} {u : Expansion} {all : ℕ} {l0 : Lists → Lists} {run0 : Tally} {faces heap : ℕ} {c : Tally} {i : ℕ} {l l' : Lists → Lists} {r : Grown}
     (turn : Turn w u all l0 run0 faces heap c i l l' r) where
   on : (g : Grown) {x : Tally} → r ≡ g → ((k : Lists) → step_of w u faces heap c (l' k) g ≡ Onward x) → GrowLoop w u all l0 run0 l' x (i + 1)
-  on g {x} t is = loop-turns turn.loop {l' = l'} {r = Onward x} turn.more (λ k. rw is at (told-as g t (turn.does k))) refl
+  on g {x} t is = loop-turns turn.loop {l' = l'} {r = Onward x} turn.more (λ k. rw is at (told-as w u c g t (turn.does k))) refl
 
   over : (g : Grown) {e : End} {x : Tally} → r ≡ g → ((k : Lists) → step_of w u faces heap c (l' k) g ≡ Ended e x)
       → (k : Lists) → Does step_out (grow_all w u all 0) (l0 k) run0 (l' k) (Ended e x)
-  over g {e} {x} t is = loop-ends turn.loop {l' = l'} {r = Ended e x} turn.more (λ k. rw is at (told-as g t (turn.does k))) refl
+  over g {e} {x} t is = loop-ends turn.loop {l' = l'} {r = Ended e x} turn.more (λ k. rw is at (told-as w u c g t (turn.does k))) refl
 
   module _ {f h : ℕ} where
     pub goes-without : r ≡ Nothing → f ≡ faces → h ≡ heap → GrowLoop w u all l0 run0 l' (counts f h c) (i + 1)

@@ -11,28 +11,28 @@ use Rattle.epa_growth.proofs.queue_new.Goals as goal
 
 pub returns-then-dist-expansion : goal.returns-then-dist-expansion
 returns-then-dist-expansion c t k =
-    tells Nearer
+    tells single c.args.expansion t Nearer
     (new-nearer single _ _ _ _ c.corner_at.ensures c.vertex_at.ensures c.normal_of.ensures
-    c.dot-dist.ensures c.if-dist-expansion.taken refl)
+    c.dot-dist.ensures c.if-dist-expansion.true refl)
 
 pub returns-in_default : goal.returns-in_default
 returns-in_default c t k =
-    tells KeyRefused
+    tells single c.args.expansion t KeyRefused
     (new-queued single _ _ _ _ c.corner_at.ensures c.vertex_at.ensures c.normal_of.ensures
-    c.dot-dist.ensures c.if-dist-expansion.left (key-refused KeyLater _ _ _ c.face_id_new.ensures c.in_default.is))
+    c.dot-dist.ensures c.if-dist-expansion.false (key-refused KeyLater _ _ _ c.face_id_new.ensures c.in_default.is))
 
 pub returns-in_default-push : goal.returns-in_default-push
 returns-in_default-push c t k =
-    tells NoRoomForEntry
+    tells single c.args.expansion t NoRoomForEntry
     (new-queued single _ _ _ _ c.corner_at.ensures c.vertex_at.ensures c.normal_of.ensures
-    c.dot-dist.ensures c.if-dist-expansion.left
+    c.dot-dist.ensures c.if-dist-expansion.false
     (key-accepted KeyLater _ _ _ c.face_id_new.ensures c.in-Some.is
     (heap-refused _ _ _ _ c.push.ensures.answer c.in_default-push.is)))
 
 pub returns : goal.returns
 returns c t k =
-    tells Queued
+    tells single c.args.expansion t Queued
     (new-queued single _ _ _ _ c.corner_at.ensures c.vertex_at.ensures c.normal_of.ensures
-    c.dot-dist.ensures c.if-dist-expansion.left
+    c.dot-dist.ensures c.if-dist-expansion.false
     (key-accepted KeyLater _ _ _ c.face_id_new.ensures c.in-Some.is
     (entry_in _ _ _ _ c.push.ensures.answer c.in-Done.is)))
