@@ -6,8 +6,8 @@ use Rattle.epa_first_faces.proofs.start_faces.Goals as goal
 
 pub returns-then-dim-eq3 : goal.returns-then-dim-eq3
 unfolding start_faces
-returns-then-dim-eq3 c k = first_way _ (eq-eqb _ _ c.if-dim-eq3.taken) (c.start_four.ensures k)
+returns-then-dim-eq3 c k = first_way _ (eq-eqb _ _ c.if-dim-eq3.true) (c.start_four.ensures k)
 
 pub returns : goal.returns
 unfolding start_faces
-returns c k = second_way _ (ne_eqb _ _ c.if-dim-eq3.left) (c.start_two.ensures k)
+returns c k = second_way _ (ne_eqb _ _ c.if-dim-eq3.false) (c.start_two.ensures k)

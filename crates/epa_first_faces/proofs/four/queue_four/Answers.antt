@@ -1,15 +1,9 @@
 -- `queue_four` does what `queue_four` does: two pairs are queued or left, either of which may end the run, and one of the four has to hold. Assumes nothing.
 use borrow.Author.Rules.{rules}
-use mathlib.Core.Path.{◌≡◌, ◌∙◌}
-use lib.ListN.{length}
 use Rattle.epa_polytope.specs.Promises.{single}
 use Rattle.epa_polytope.proofs.Doing.{place}
 use Rattle.epa_polytope.proofs.StartingFour.{first-pair-ends, second-pair-ends, one_holds, none-holds}
 use Rattle.epa_first_faces.proofs.four.queue_four.Goals as goal
-use Rattle.epa_first_faces.proofs.four.queue_four.Goals.{After-queue_two-s1, After-queue_two-s2, Start}
-
-abbrev start : After-queue_two-s2 → Start
-start c = search
 
 pub returns-in_default : goal.returns-in_default
 returns-in_default c k = first-pair-ends single _ _ _ _ _ (c.queue_two-s1.ensures k) c.in_default.is
@@ -28,10 +22,3 @@ pub returns : goal.returns
 returns c k =
     none-holds single _ _ _ _ _ (c.queue_two-s1.ensures k) c.in-Onward.is (c.queue_two-s2.ensures k)
     c.in-Onward-s2.is c.if-h1-h2.false
-
--- the heap's lists keep their lengths over both pairs
-same-ids : (c : After-queue_two-s2) → length c.queue_two-s2.new.1.1.0 ≡ length (start c).args.heap-ids.now
-same-ids c = c.queue_two-s2.auto.1.1.0 ∙ (place After-queue_two-s1 (search)).queue-two.kept.1.1.0
-
-same_keys : (c : After-queue_two-s2) → length c.queue_two-s2.new.1.1.1.0 ≡ length (start c).args.heap-keys.now
-same_keys c = c.queue_two-s2.auto.1.1.1.0 ∙ (place After-queue_two-s1 (search)).queue-two.kept.1.1.1.0

@@ -7,7 +7,7 @@ use Rattle.epa_first_faces.proofs.four.queue_start.Goals as goal
 
 pub returns-then-holds : goal.returns-then-holds
 returns-then-holds c k =
-    start-held single _ _ _ _ c.if-holds.taken c.normal_of.ensures c.vertex_at.ensures
+    start-held single _ _ _ _ c.if-holds.true c.normal_of.ensures c.vertex_at.ensures
     c.dot-dist.ensures (here c.queue_face.ensures _ refl)
 
 pub returns : goal.returns

@@ -4,7 +4,7 @@ use Rattle.epa_polytope.proofs.Doing.{place}
 use Rattle.epa_first_faces.proofs.four.wind_outward.Goals as goal
 
 pub returns-then-winds_inward : goal.returns-then-winds_inward
-returns-then-winds_inward c = c.exchange.ensures ∙ rw (sym c.winds_inward.ensures ∙ c.if-winds_inward.taken)
+returns-then-winds_inward c = c.exchange.ensures ∙ rw (sym c.winds_inward.ensures ∙ c.if-winds_inward.true)
 
 pub returns-else-winds_inward : goal.returns-else-winds_inward
 returns-else-winds_inward c = rw (sym c.winds_inward.ensures ∙ c.if-winds_inward.false)

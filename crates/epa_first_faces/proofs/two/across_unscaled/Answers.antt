@@ -6,8 +6,8 @@ use Rattle.epa_first_faces.proofs.two.across_unscaled.Goals as goal
 
 pub returns-then-abs : goal.returns-then-abs
 unfolding across of_bits
-returns-then-abs c = simp (← c.new.ensures, ← c.abs-2.ensures, ← c.abs.ensures, c.if-abs.taken)
+returns-then-abs c = simp (← c.new.ensures, ← c.abs-2.ensures, ← c.abs.ensures, c.if-abs.true)
 
 pub returns : goal.returns
 unfolding across of_bits
-returns c = simp (← c.new-2.ensures, ← c.abs-2.ensures, ← c.abs.ensures, c.if-abs.left)
+returns c = simp (← c.new-2.ensures, ← c.abs-2.ensures, ← c.abs.ensures, c.if-abs.false)

@@ -16,5 +16,5 @@ pub returns : goal.returns
 unfolding zero_v of_bits
 returns c k =
     third-pushed _ _ _ c.vertex_at.ensures c.vertex_at-2.ensures c.sub-dpt.ensures
-    c.normalize_or_zero-v.ensures c.equals.ensures c.if-equals.left
+    c.normalize_or_zero-v.ensures c.equals.ensures c.if-equals.false
     c.across_of.ensures c.from_shapes-pt.ensures (c.push_vertex.ensures k)

@@ -4,7 +4,7 @@ use Rattle.epa_polytope.proofs.Doing.{done-if, not_done, place}
 use Rattle.epa_first_faces.proofs.two.with_third.Goals as goal
 
 pub returns-then-tally-eq2 : goal.returns-then-tally-eq2
-returns-then-tally-eq2 c k = done-if (eq-eqb _ _ c.if-tally-eq2.taken) (c.third.ensures k)
+returns-then-tally-eq2 c k = done-if (eq-eqb _ _ c.if-tally-eq2.true) (c.third.ensures k)
 
 pub returns : goal.returns
 returns c k = not_done _ (ne_eqb _ _ c.if-tally-eq2.false)
