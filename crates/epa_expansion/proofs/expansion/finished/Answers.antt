@@ -10,8 +10,8 @@ returns-then-walked c = finished-short c.args.tally _ _ c.recorded.ensures c.pas
 
 pub returns-in-Done : goal.returns-in-Done
 returns-in-Done c =
-    finished_on c.args.tally _ _ c.recorded.ensures c.passed-next.ensures c.if-walked.left c.in-Done.is
+    finished_on c.args.tally _ _ c.recorded.ensures c.passed-next.ensures c.if-walked.false c.in-Done.is
 
 pub returns-in-NoRoom : goal.returns-in-NoRoom
 returns-in-NoRoom c =
-    finished-full c.args.tally _ _ c.recorded.ensures c.passed-next.ensures c.if-walked.left c.in-NoRoom.is
+    finished-full c.args.tally _ _ c.recorded.ensures c.passed-next.ensures c.if-walked.false c.in-NoRoom.is

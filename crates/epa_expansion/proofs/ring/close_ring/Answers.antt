@@ -9,5 +9,5 @@ returns-then-tally-first c k = none_made _ _ _ c.if-tally-first.true
 
 pub returns : goal.returns
 returns c k =
-    ring-closed _ _ _ c.if-tally-first.left c.before-last.ensures c.set_neighbour.ensures
+    ring-closed _ _ _ c.if-tally-first.false c.before-last.ensures c.set_neighbour.ensures
     c.set_neighbour-2.ensures (here c.clear_edges.ensures _ refl)

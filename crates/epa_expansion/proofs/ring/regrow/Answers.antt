@@ -10,9 +10,9 @@ pub returns-then-n-eq0 : goal.returns-then-n-eq0
 returns-then-n-eq0 c k = no_edges single _ _ _ c.if-n-eq0.true
 
 pub returns-in-Ended : goal.returns-in-Ended
-returns-in-Ended c k = regrow-ended single _ _ _ c.if-n-eq0.left (c.grow_all-grown.ensures k) c.in-Ended.is
+returns-in-Ended c k = regrow-ended single _ _ _ c.if-n-eq0.false (c.grow_all-grown.ensures k) c.in-Ended.is
 
 pub returns-in-Onward : goal.returns-in-Onward
 returns-in-Onward c k =
-    regrown single _ _ _ c.if-n-eq0.left (c.grow_all-grown.ensures k) c.in-Onward.is
+    regrown single _ _ _ c.if-n-eq0.false (c.grow_all-grown.ensures k) c.in-Onward.is
     (here c.close_ring.ensures _ refl)
