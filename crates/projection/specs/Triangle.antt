@@ -15,13 +15,11 @@ use Rattle.projection.specs.declared.triangle.TrianglePointLocation.{TrianglePoi
 use Rattle.projection.specs.declared.triangle.TrianglePointLocation.TheVariants.{OnVertex, OnEdge, OnFace, OnSolid}
 use Rattle.projection.specs.declared.triangle.TriangleProjection.{TriangleProjection}
 use Rattle.projection.specs.declared.triangle.BarycentricCoordinates.{BarycentricCoordinates}
-use Rattle.projection.specs.declared.triangle.BarycentricCoordinates.TheVariants as BarycentricCoordinates
 use Rattle.projection.specs.declared.triangle.Differences.{Differences}
 use Rattle.projection.specs.declared.triangle.Dots.{Dots}
 use Rattle.projection.specs.declared.triangle.MaybeProjection.{MaybeProjection}
 use Rattle.projection.specs.declared.triangle.MaybeProjection.TheVariants.{Some, None}
 use Rattle.projection.specs.declared.triangle.ProjectionInfo.{ProjectionInfo}
-use Rattle.projection.specs.declared.triangle.ProjectionInfo.TheVariants as ProjectionInfo
 
 -- ---- the Voronoi regions of the corners
 unfoldable pub on_vertex : ℕ → Vec3 → MaybeProjection

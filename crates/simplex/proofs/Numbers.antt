@@ -8,7 +8,6 @@ use lib.Ieee.{Float, Format, nan}
 use Rattle.vector.specs.declared.vec3.Vec3.{Vec3}
 use Rattle.shape.specs.declared.vertex.Vertex.{Vertex}
 use Rattle.simplex.specs.declared.voronoi_simplex.VoronoiSimplex.{VoronoiSimplex}
-use Rattle.simplex.specs.declared.operations.Answer.{Answer}
 use Rattle.simplex.specs.declared.operations.Answer.TheVariants.{Yes, No, Refused as NoAnswer}
 use Rattle.simplex.specs.declared.operations.Added.{Added}
 use Rattle.simplex.specs.declared.operations.Scalar.TheVariants.{Is, Refused as NoScalar}

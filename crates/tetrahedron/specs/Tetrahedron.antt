@@ -5,7 +5,6 @@ use Rattle.std.specs.Float.{Format}
 use Rattle.std.specs.Float.Ieee.{lt, le, ne, eq}
 use Rattle.vector.specs.declared.vec3.Vec3.{Vec3}
 use Rattle.vector.specs.declared.vec3.MaybeVec3.{MaybeVec3}
-use Rattle.vector.specs.declared.vec3.MaybeVec3.TheVariants as MaybeVec3
 use Rattle.vector.specs.Vector.{zero_f, one_f, zero_v, neg_v, add_v, sub_v, scale_v, dot_v, cross_v, try_normalize_v, ◌⊕◌, ◌⊖◌, ◌⊗◌, ◌⊘◌}
 use Rattle.projection.specs.Signs.{at_least_zero, at_most_zero}
 use Rattle.projection.specs.Values.{Values}

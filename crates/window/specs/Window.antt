@@ -2,10 +2,8 @@
 use Rattle.std.specs.Prelude.{ℕ, ◌+◌, ◌-◌, ◌%◌, ◌^◌, cond, List, length, take, drop, nat_le, nat_lt}
 use Rattle.std.proofs.lemmas.List.Edits.{sets}
 use Rattle.lines.specs.declared.text.Placed.{Placed}
-use Rattle.lines.specs.declared.text.Placed.TheVariants as Placed
 use Rattle.window.specs.declared.Window.{Window}
 use Rattle.window.specs.declared.Turn.{Turn}
-use Rattle.window.specs.declared.Turn.TheVariants as Turn
 
 -- where a place of the window stands in the file: no file has 2 ^ 64 bytes
 abbrev pub offset_of : ℕ → ℕ → ℕ

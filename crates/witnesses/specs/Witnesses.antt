@@ -5,9 +5,7 @@ use Rattle.vector.specs.declared.vec3.Vec3.{Vec3}
 use Rattle.vector.specs.Vector.{zero_v, add_v, scale_v}
 use Rattle.simplex.specs.declared.voronoi_simplex.VoronoiSimplex.{VoronoiSimplex}
 use Rattle.simplex.specs.declared.operations.Scalar.{Scalar}
-use Rattle.simplex.specs.declared.operations.Scalar.TheVariants as Scalar
 use Rattle.simplex.specs.declared.operations.Corner.{Corner}
-use Rattle.simplex.specs.declared.operations.Corner.TheVariants as Corner
 use Rattle.simplex.specs.Operations.{proj_coord, corner_point, prev_proj_coord, prev_point}
 use Rattle.witnesses.specs.declared.Witnesses.{Witnesses}
 use Rattle.witnesses.specs.declared.Witnesses.TheVariants.{At, Refused}

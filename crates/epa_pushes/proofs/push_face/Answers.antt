@@ -2,31 +2,23 @@
 use Prim.Native.Nat.{◌<◌, ◌^◌}
 use lib.ListN.{length}
 use borrow.Author.Rules.{rules}
-use borrow.Author.Tests.{not-true, not-false}
-use Rattle.epa_polytope.specs.declared.types.Tally.{Tally}
-use Rattle.epa_polytope.proofs.Doing.{nothing-else, place}
+use Rattle.epa_polytope.proofs.Doing.{nothing-else}
 use Rattle.epa_pushes.proofs.Rooms.{refused, written, one-more-fits}
 use Rattle.epa_pushes.proofs.push_face.Goals as goal
-use Rattle.epa_pushes.proofs.push_face.Goals.{After-write_face, Start}
-
--- the tally that is given, of the place where `write_face` has returned
-abbrev tally : After-write_face → Tally
-tally c = (place Start (search)).args.tally
+use Rattle.epa_pushes.proofs.push_face.Goals.{Start}
 
 pub returns-then-not-write_face : goal.returns-then-not-write_face
 returns-then-not-write_face c k =
-    refused _ _ _ _ (tally (search)) c.write_face.result (c.write_face.ensures (tally (search)) k)
-    (not-true _ c.if-not-write_face.true-raw)
+    refused _ _ _ _ c.args.tally c.write_face.result (c.write_face.ensures c.args.tally k) c.if-not-write_face.true
 
 deleted-fits : (c : Start) → length c.args.deleted.now < 2 ^ 64
 deleted-fits c = search rules
 
 pub overflow_add-next : goal.overflow_add-next
 overflow_add-next c =
-    one-more-fits _ _ _ _ (tally (search)) c.write_face.result (c.write_face.ensures (tally (search)) nothing-else)
-    (deleted-fits (search)) (not-false _ c.if-not-write_face.false-raw)
+    one-more-fits _ _ _ _ c.args.tally c.write_face.result (c.write_face.ensures c.args.tally nothing-else)
+    (deleted-fits (goal.at.overflow_add-next c).Start) c.if-not-write_face.false
 
 pub returns : goal.returns
 returns c k =
-    written _ _ _ _ (tally (search)) c.write_face.result (c.write_face.ensures (tally (search)) k)
-    (not-false _ c.if-not-write_face.false-raw)
+    written _ _ _ _ c.args.tally c.write_face.result (c.write_face.ensures c.args.tally k) c.if-not-write_face.false

@@ -8,4 +8,4 @@ pub returns-then-vertices-n : goal.returns-then-vertices-n
 returns-then-vertices-n c k = vertex-refused _ _ _ c.if-vertices-n.true
 
 pub returns : goal.returns
-returns c k = vertex-written _ _ _ c.if-vertices-n.left c.put_vertex.ensures
+returns c k = vertex-written _ _ _ c.if-vertices-n.false c.put_vertex.ensures

@@ -9,9 +9,9 @@ pub returns-then-face_room-n : goal.returns-then-face_room-n
 returns-then-face_room-n c t k = face-refused _ _ _ _ _ (c.face_room.ensures k) c.if-face_room-n.true
 
 pub put_face-requires : goal.put_face-requires
-put_face-requires c = omega (arith, c.face_room.ensures nothing-else, c.if-face_room-n.left)
+put_face-requires c = omega (arith, c.face_room.ensures nothing-else, c.if-face_room-n.false)
 
 pub returns : goal.returns
 returns c t k =
-    face-written _ _ _ _ _ (c.face_room.ensures k) c.if-face_room-n.left c.put_face.ensures
+    face-written _ _ _ _ _ (c.face_room.ensures k) c.if-face_room-n.false c.put_face.ensures
     c.put_made.ensures c.set_deleted.ensures

@@ -1,6 +1,5 @@
 -- `roots::has_no_root` meets its contract, by what `number::sqrt` ensures. Assumes nothing.
 use mathlib.Core.Path.{ap}
-use borrow.Author.Rules.{rules}
 use lib.Ieee.{Float, ne}
 use Rattle.roots.proofs.has_no_root.Goals as goal
 

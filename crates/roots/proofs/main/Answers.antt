@@ -1,5 +1,4 @@
 -- `roots::main`: each known root is the one that `root` computes. Assumes nothing.
-use borrow.Author.Rules.{rules}
 use borrow.Author.Tests.{eq-eqb}
 use lib.Ieee.{ne, is_nan, nan_bits, of_bits, to_bits}
 use Rattle.number.specs.Root.{root}

@@ -1,7 +1,6 @@
 -- `roots::root_of` meets its contract, by what `number::sqrt` ensures. Assumes nothing.
 use mathlib.Core.Path.{ap, sym, subst}
 use mathlib.Core.Bool.{not}
-use borrow.Author.Rules.{rules}
 use lib.Dec.{T}
 use lib.Ieee.{Float, binary32, is_nan, to_bits}
 use Rattle.roots.proofs.root_of.Goals as goal

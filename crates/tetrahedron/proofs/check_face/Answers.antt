@@ -1,5 +1,4 @@
 -- `check_face` returns `check_face`, by its tests in order.
-use borrow.Author.Rules.{rules}
 use lib.Ieee.{of_bits}
 use Rattle.tetrahedron.specs.Tetrahedron.{check_face, by_normal}
 use Rattle.tetrahedron.proofs.check_face.Goals as goal

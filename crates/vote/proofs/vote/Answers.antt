@@ -1,5 +1,4 @@
 -- The vote is `vote_of`: what the three tests decide. Assumes nothing.
-use Rattle.std.proofs.Common.{ap}
 use Rattle.number.proofs.Told.{told}
 use Rattle.vote.specs.Vote.{vote_of}
 use Rattle.vote.proofs.vote.Goals as goal

@@ -1,5 +1,4 @@
 -- What `bad_turn` returns. Assumes nothing.
-use Rattle.std.proofs.Common.{rules}
 use Rattle.window.proofs.bad_turn.Goals as goal
 
 pub returns-in-Next : goal.returns-in-Next

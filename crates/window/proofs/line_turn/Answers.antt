@@ -1,5 +1,4 @@
 -- What `line_turn` returns. Assumes nothing.
-use Rattle.std.proofs.Common.{rules}
 use Rattle.window.proofs.line_turn.Goals as goal
 
 pub returns-in-Next : goal.returns-in-Next

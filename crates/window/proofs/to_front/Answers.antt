@@ -1,5 +1,5 @@
 -- `to_front` leaves what `front_of` does. The invariant: the first i bytes are moved; the measure is how many are left. Assumes nothing.
-use Rattle.std.proofs.Common.{◌≡◌, ℕ, ◌+◌, ◌-◌, ◌≤◌, List, length, get_or, take, drop, set, refl, ap, ◌∙◌, arith, length-set, le-ltb, lt-ltb}
+use Rattle.std.proofs.Common.{◌≡◌, ℕ, ◌+◌, ◌-◌, List, get_or, take, drop, set, refl, ap, ◌∙◌, arith, length-set, le-ltb, lt-ltb}
 use lib.Seq.{sets}
 use Rattle.window.specs.Window.{front_of}
 use Rattle.window.proofs.Fronts.{one-more-front}

@@ -1,7 +1,5 @@
-use Rattle.std.proofs.Common.{◌≡◌, ℕ, ◌+◌, ◌-◌, ◌≤◌, List, length, get_or, take, drop, set, refl, ap, ◌∙◌, arith, length-set, le-ltb, lt-ltb}
+use Rattle.std.proofs.Common.{◌≡◌, ◌+◌, ◌-◌, ◌≤◌, length, take, drop}
 use lib.Seq.{sets}
-use Rattle.window.specs.Window.{front_of}
-use Rattle.window.proofs.Fronts.{one-more-front}
 use Rattle.window.proofs.to_front.Given as goal
 
 abbrev pub invariant-loop-i : goal.invariant-loop-i

@@ -1,6 +1,4 @@
 -- `result` returns `result_of`.
-use Rattle.std.proofs.Common.{ap}
-use borrow.Author.Rules.{rules}
 use borrow.Author.Tests.{le-ltb, lt-ltb}
 use Rattle.number.proofs.Told.{told}
 use Rattle.witnesses.specs.Witnesses.{result_of}

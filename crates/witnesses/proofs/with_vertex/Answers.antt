@@ -1,5 +1,4 @@
 -- `with_vertex` returns `with_vertex`: refused where the sum or a reader is.
-use borrow.Author.Rules.{rules}
 use Rattle.witnesses.specs.Witnesses.{with_vertex}
 use Rattle.witnesses.proofs.with_vertex.Goals as goal
 

@@ -1,10 +1,6 @@
-use mathlib.Core.Path.{◌≡◌, refl, ap}
+use mathlib.Core.Path.{◌≡◌}
 use Prim.Native.Nat.{◌-◌, ◌≤◌}
-use native.Mathlib.Numerals.{add-one}
-use native.Mathlib.Omega.{arith}
-use borrow.Author.Rules.{rules}
-use lib.Ieee.{binary32, of_bits}
-use Rattle.vector.specs.Vector.{zero_v}
+use lib.Ieee.{binary32}
 use Rattle.witnesses.specs.Witnesses.{witnesses_to}
 use Rattle.witnesses.proofs.witnesses_to.Given as goal
 

@@ -1,11 +1,8 @@
-use Prim.Native.Nat.{ℕ, suc, ◌+◌, ◌-◌, ◌*◌, ◌%◌, ◌<◌}
-use mathlib.Core.Path.{◌≡◌, refl, sym, ap, ◌∙◌}
-use native.Mathlib.Omega.{arith}
-use borrow.Author.Rules.{rules}
+use Prim.Native.Nat.{◌*◌, ◌<◌}
+use mathlib.Core.Path.{◌≡◌}
 use lib.ListN.{drop}
-use Rattle.casefile.specs.declared.numbers.NumberAnswer.{NumberAnswer}
 use Rattle.casefile.specs.Numbers.{joined, later_in, limit}
-use Rattle.casefile.proofs.Groups.{later-ended, later-none, later-over, later-fifth, later_last, later_more, held, held_first, held_more, room, seven, limit-next}
+use Rattle.casefile.proofs.Groups.{held}
 use Rattle.casefile.proofs.numbers.later.Given as goal
 
 abbrev pub invariant-loop-next : goal.invariant-loop-next

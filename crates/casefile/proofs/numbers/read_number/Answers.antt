@@ -1,7 +1,5 @@
 -- A number is `decode_number`: its first group, joined with the later ones. Assumes nothing.
-use Rattle.std.proofs.Common.{ap}
 use mathlib.Core.Path.{sym, ◌∙◌}
-use borrow.Author.Rules.{rules}
 use Rattle.number.proofs.Told.{told}
 use Rattle.casefile.proofs.Groups.{first_ended, first-last, first_more}
 use Rattle.casefile.proofs.numbers.read_number.Goals as goal

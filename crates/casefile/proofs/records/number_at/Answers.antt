@@ -1,5 +1,4 @@
 -- The next number, or what was refused before. Assumes nothing.
-use borrow.Author.Rules.{rules}
 use Rattle.casefile.specs.Records.{number_at}
 use Rattle.casefile.proofs.records.number_at.Goals as goal
 

@@ -1,5 +1,4 @@
 -- The next numbers, or none where reading was refused before. Assumes nothing.
-use borrow.Author.Rules.{rules}
 use Rattle.casefile.proofs.Words.{unread-bad, unread-ended}
 use Rattle.casefile.proofs.records.numbers_at.Goals as goal
 

@@ -1,9 +1,7 @@
 -- The next numbers, in a loop: the invariant is `Loop`, the measure how many are left. Assumes nothing.
 use mathlib.Core.Path.{sym, ◌∙◌}
-use Prim.Native.Nat.{◌-◌, ◌<◌}
 use native.Mathlib.Omega.{arith}
-use borrow.Author.Rules.{rules}
-use Rattle.casefile.proofs.Words.{Loop, begun, next-read, stopped-bad, stopped-ended, done}
+use Rattle.casefile.proofs.Words.{begun, next-read, stopped-bad, stopped-ended, done}
 use Rattle.casefile.proofs.records.numbers_from.Goals as goal
 
 pub loop-i-init : goal.loop-i-init

@@ -1,8 +1,5 @@
-use mathlib.Core.Path.{sym, ◌∙◌}
-use Prim.Native.Nat.{◌-◌, ◌<◌}
-use native.Mathlib.Omega.{arith}
-use borrow.Author.Rules.{rules}
-use Rattle.casefile.proofs.Words.{Loop, begun, next-read, stopped-bad, stopped-ended, done}
+use Prim.Native.Nat.{◌-◌}
+use Rattle.casefile.proofs.Words.{Loop}
 use Rattle.casefile.proofs.records.numbers_from.Given as goal
 
 abbrev pub invariant-loop-i : goal.invariant-loop-i

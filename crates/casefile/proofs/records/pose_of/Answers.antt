@@ -1,5 +1,4 @@
 -- A quaternion and a translation. Assumes nothing.
-use borrow.Author.Rules.{rules}
 use Rattle.casefile.specs.Records.{pose_of}
 use Rattle.casefile.proofs.records.pose_of.Goals as goal
 

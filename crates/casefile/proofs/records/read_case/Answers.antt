@@ -1,6 +1,4 @@
 -- The record by its parts. Assumes nothing.
-use Rattle.std.proofs.Common.{ap}
-use borrow.Author.Rules.{rules}
 use Rattle.number.proofs.Told.{told}
 use Rattle.casefile.proofs.Parts.{whole-read, bad-read, ended-read}
 use Rattle.casefile.proofs.records.read_case.Goals as goal

@@ -1,5 +1,4 @@
 -- A shape by its kind; from kind 3 on it is a triangle. Assumes nothing.
-use borrow.Author.Rules.{rules}
 use Rattle.casefile.proofs.Parts.{ball-of, cuboid-of, capsule-of, triangle-of}
 use Rattle.casefile.proofs.records.shape_of.Goals as goal
 

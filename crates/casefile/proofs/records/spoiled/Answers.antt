@@ -1,5 +1,4 @@
 -- The case of each way of standing. Assumes nothing.
-use borrow.Author.Rules.{rules}
 use Rattle.casefile.proofs.records.spoiled.Goals as goal
 
 pub returns-in-At : goal.returns-in-At

@@ -1,5 +1,4 @@
 -- Three words, one after the other. Assumes nothing.
-use borrow.Author.Rules.{rules}
 use Rattle.casefile.proofs.records.vector_of.Goals as goal
 
 pub returns : goal.returns

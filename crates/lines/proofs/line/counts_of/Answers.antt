@@ -1,5 +1,4 @@
 -- The counts of each outcome. Assumes nothing.
-use borrow.Author.Rules.{rules}
 use Rattle.lines.specs.Lines.{counts_text_of, maybe_text}
 use Rattle.lines.proofs.line.counts_of.Goals as goal
 

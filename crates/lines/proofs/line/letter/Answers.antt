@@ -1,5 +1,4 @@
 -- The letter of each outcome. Assumes nothing.
-use borrow.Author.Rules.{rules}
 use Rattle.lines.proofs.line.letter.Goals as goal
 
 pub returns-in-ClosestPoints : goal.returns-in-ClosestPoints

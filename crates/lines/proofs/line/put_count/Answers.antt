@@ -1,5 +1,4 @@
 -- A space and the digits. Assumes nothing.
-use mathlib.Core.Path.{◌∙◌}
 use native.Mathlib.Omega.{arith}
 use Rattle.lines.specs.Lines.{count_text}
 use Rattle.lines.specs.Text.{decimal_of}

@@ -1,7 +1,6 @@
 -- The text of what `counts_of` found. Assumes nothing.
 use mathlib.Core.Path.{sym}
 use native.Mathlib.Omega.{arith}
-use borrow.Author.Rules.{rules}
 use Rattle.lines.specs.Lines.{maybe_text}
 use Rattle.lines.proofs.Puts.{nothing}
 use Rattle.lines.proofs.line.put_counts.Goals as goal

@@ -1,5 +1,4 @@
 -- Five counts, one after the other. Assumes nothing.
-use mathlib.Core.Path.{◌∙◌}
 use native.Mathlib.Omega.{arith}
 use Rattle.lines.specs.Lines.{counts_text}
 use Rattle.lines.proofs.Puts.{then, within}

@@ -1,5 +1,4 @@
 -- A space and eight digits. Assumes nothing.
-use mathlib.Core.Path.{◌∙◌}
 use native.Mathlib.Omega.{arith}
 use Rattle.lines.specs.Lines.{float_text}
 use Rattle.lines.proofs.Puts.{then}

@@ -1,6 +1,5 @@
 -- The floats of each outcome. Assumes nothing.
 use native.Mathlib.Omega.{arith}
-use borrow.Author.Rules.{rules}
 use Rattle.lines.specs.Lines.{floats_text_of}
 use Rattle.lines.proofs.Puts.{nothing}
 use Rattle.lines.proofs.line.put_floats.Goals as goal

@@ -1,7 +1,5 @@
 -- The word, the digits and the end of the line. Assumes nothing.
-use mathlib.Core.Path.{◌∙◌}
 use native.Mathlib.Omega.{arith}
-use borrow.Author.Rules.{rules}
 use Rattle.lines.specs.Lines.{last_line}
 use Rattle.lines.specs.Text.{decimal_of}
 use Rattle.lines.proofs.Puts.{then, within, decimal-length}

@@ -1,5 +1,4 @@
 -- The parts of the line, one after the other. Assumes nothing.
-use mathlib.Core.Path.{◌∙◌}
 use native.Mathlib.Omega.{arith}
 use lib.Ieee.{binary32}
 use Rattle.lines.specs.Lines.{line_of}

@@ -1,5 +1,4 @@
 -- Three floats, one after the other. Assumes nothing.
-use mathlib.Core.Path.{◌∙◌}
 use native.Mathlib.Omega.{arith}
 use Rattle.lines.specs.Lines.{vector_text}
 use Rattle.lines.proofs.Puts.{then}

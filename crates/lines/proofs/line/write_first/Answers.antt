@@ -1,5 +1,4 @@
 -- `write_first` places the line. Assumes nothing.
-use borrow.Author.Rules.{rules}
 use Rattle.lines.specs.Lines.{first_line}
 use Rattle.lines.proofs.line.write_first.Goals as goal
 

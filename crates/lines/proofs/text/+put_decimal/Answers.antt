@@ -1,5 +1,5 @@
 -- A number's digits are `decimal_in`: each way out is the definition unfolded once. The measure is how many digits may follow.
-use Rattle.std.proofs.Common.{ℕ, suc, ◌≡◌, ◌∙◌, ◌-◌, ◌/◌, arith}
+use Rattle.std.proofs.Common.{ℕ, suc, ◌≡◌, ◌-◌, ◌/◌, arith}
 use Rattle.lines.proofs.Puts.{then, decimal-length, decimal-cut, decimal-one, decimal-more}
 use Rattle.lines.proofs.text.+put_decimal.Goals as goal
 

@@ -1,9 +1,9 @@
 -- `copy` puts the text in. The invariant: the first i bytes of it are in; the measure is how many are left. Assumes nothing.
-use Prim.Native.Nat.{ℕ, ◌+◌, ◌-◌, ◌≤◌}
-use mathlib.Core.Path.{◌≡◌, refl, ap, ◌∙◌}
+use Prim.Native.Nat.{ℕ, ◌+◌}
+use mathlib.Core.Path.{refl, ap, ◌∙◌}
 use mathlib.Core.List.{List}
 use native.Mathlib.Omega.{arith}
-use lib.ListN.{length, take, get_or, set, length-set}
+use lib.ListN.{get_or, set, length-set}
 use lib.Seq.{sets, take_all}
 use Rattle.lines.proofs.Puts.{one_more}
 use Rattle.lines.proofs.text.copy.Goals as goal

@@ -1,6 +1,5 @@
 -- The digit is `digit`. Assumes nothing.
 use mathlib.Core.Path.{refl}
-use borrow.Author.Rules.{rules}
 use Rattle.lines.specs.Text.{digit}
 use Rattle.lines.proofs.text.digit.Goals as goal
 

@@ -1,5 +1,4 @@
 -- The digit is `hex_digit`: below ten a numeral, else a letter from A on. Assumes nothing.
-use native.Mathlib.Omega.{arith}
 use borrow.Author.Tests.{lt-ltb, le-ltb}
 use Rattle.lines.specs.Text.{hex_digit}
 use Rattle.lines.proofs.text.hex_digit.Goals as goal

@@ -1,6 +1,5 @@
 -- `place` is `place_of`: the text goes in where it has room, by `copy`. Assumes nothing.
 use native.Mathlib.Omega.{arith}
-use borrow.Author.Rules.{rules}
 use Rattle.lines.proofs.Puts.{there, no_room}
 use Rattle.lines.proofs.text.place.Goals as goal
 

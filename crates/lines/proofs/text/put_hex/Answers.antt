@@ -1,5 +1,4 @@
 -- Eight digits, by pairs. Assumes nothing.
-use mathlib.Core.Path.{◌∙◌}
 use native.Mathlib.Omega.{arith}
 use Rattle.lines.specs.Text.{hex_of}
 use Rattle.lines.proofs.Puts.{then, pair-length}

@@ -1,5 +1,4 @@
 -- Two digits, one after the other. Assumes nothing.
-use mathlib.Core.Path.{◌∙◌}
 use native.Mathlib.Omega.{arith}
 use Rattle.lines.specs.Text.{hex_pair}
 use Rattle.lines.proofs.Puts.{then}

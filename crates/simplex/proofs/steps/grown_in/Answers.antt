@@ -1,6 +1,5 @@
 -- `grown_in` returns `grown_in`, write by write.
 use mathlib.Core.Path.{refl}
-use borrow.Author.Rules.{rules}
 use Rattle.simplex.specs.Simplex.{grown_in}
 use Rattle.simplex.proofs.steps.grown_in.Goals as goal
 

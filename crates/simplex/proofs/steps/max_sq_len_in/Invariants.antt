@@ -1,9 +1,6 @@
-use mathlib.Core.Path.{◌≡◌, refl, ap}
+use mathlib.Core.Path.{◌≡◌}
 use Prim.Native.Nat.{◌+◌, ◌-◌, ◌≤◌}
-use native.Mathlib.Numerals.{add-one}
-use native.Mathlib.Omega.{arith}
-use borrow.Author.Rules.{rules}
-use lib.Ieee.{binary32, of_bits}
+use lib.Ieee.{binary32}
 use Rattle.simplex.specs.Simplex.{max_sq_len_of}
 use Rattle.simplex.proofs.steps.max_sq_len_in.Given as goal
 

@@ -1,6 +1,5 @@
 -- `reset_in` returns `reset_in`, write by write.
 use mathlib.Core.Path.{refl}
-use borrow.Author.Rules.{rules}
 use Rattle.simplex.specs.Simplex.{reset_in}
 use Rattle.simplex.proofs.steps.reset_in.Goals as goal
 

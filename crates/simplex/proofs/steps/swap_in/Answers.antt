@@ -1,6 +1,5 @@
 -- `swap_in` returns `swap_in`, write by write.
 use mathlib.Core.Path.{refl}
-use borrow.Author.Rules.{rules}
 use Rattle.simplex.specs.Simplex.{swap_in}
 use Rattle.simplex.proofs.steps.swap_in.Goals as goal
 

@@ -1,5 +1,4 @@
 -- `Tetrahedron::check_faces` returns `check_faces`, up to the first face that finds something.
-use borrow.Author.Rules.{rules}
 use Rattle.tetrahedron.specs.Tetrahedron.{check_faces, ◌or_else◌}
 use Rattle.tetrahedron.proofs.Tetrahedron.check_faces.Goals as goal
 

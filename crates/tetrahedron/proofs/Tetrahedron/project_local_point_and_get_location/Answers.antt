@@ -1,6 +1,4 @@
 -- `Tetrahedron::project_local_point_and_get_location` returns `project_tetrahedron`: the corners, the edges, the faces, else solid.
-use Rattle.std.proofs.Common.{ap}
-use borrow.Author.Rules.{rules}
 use Rattle.number.proofs.Told.{told}
 use Rattle.tetrahedron.specs.Tetrahedron.{project_tetrahedron, ◌or_else◌, or_solid}
 use Rattle.tetrahedron.proofs.Tetrahedron.project_local_point_and_get_location.Goals as goal

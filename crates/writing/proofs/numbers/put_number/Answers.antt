@@ -1,5 +1,4 @@
 -- A number is `encode`: at most five groups. Assumes nothing.
-use borrow.Author.Rules.{rules}
 use Rattle.casefile.specs.Numbers.{encode}
 use Rattle.writing.proofs.numbers.put_number.Goals as goal
 

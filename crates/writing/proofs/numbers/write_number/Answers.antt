@@ -1,7 +1,6 @@
 -- `write_number` places the encoding: what `put_number` left in the first places of the local array. Assumes nothing.
 use mathlib.Core.Path.{sym, ap, ◌∙◌}
 use native.Mathlib.Omega.{arith}
-use borrow.Author.Rules.{rules}
 use lib.Seq.{length-take-le}
 use Rattle.lines.specs.Text.{place_of}
 use Rattle.casefile.proofs.Groups.{encode-length}

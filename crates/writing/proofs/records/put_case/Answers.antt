@@ -1,5 +1,4 @@
 -- The parts of the record, one after the other. Assumes nothing.
-use mathlib.Core.Path.{◌∙◌}
 use native.Mathlib.Omega.{arith}
 use lib.Ieee.{binary32}
 use Rattle.casefile.specs.Records.{words_of}

@@ -1,5 +1,4 @@
 -- Four floats and a vector. Assumes nothing.
-use mathlib.Core.Path.{◌∙◌}
 use native.Mathlib.Omega.{arith}
 use Rattle.lines.proofs.Puts.{within}
 use Rattle.writing.proofs.Encodings.{then-all, all-length}

@@ -1,7 +1,5 @@
 -- The kind, and the numbers of a shape of that kind. Assumes nothing.
-use mathlib.Core.Path.{◌∙◌}
 use native.Mathlib.Omega.{arith}
-use borrow.Author.Rules.{rules}
 use Rattle.casefile.specs.Records.{shape_words}
 use Rattle.lines.proofs.Puts.{within}
 use Rattle.writing.proofs.Encodings.{then-all, all-length}

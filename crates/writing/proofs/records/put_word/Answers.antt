@@ -1,5 +1,4 @@
 -- A number. Assumes nothing.
-use borrow.Author.Rules.{rules}
 use Rattle.writing.proofs.Encodings.{one}
 use Rattle.writing.proofs.records.put_word.Goals as goal
 

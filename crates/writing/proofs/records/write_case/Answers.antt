@@ -1,7 +1,6 @@
 -- `write_case` places the record: what `put_case` left in the first places of the local array. Assumes nothing.
 use mathlib.Core.Path.{sym, ap, ◌∙◌}
 use native.Mathlib.Omega.{arith}
-use borrow.Author.Rules.{rules}
 use lib.Seq.{length-take-le}
 use lib.Ieee.{binary32}
 use Rattle.lines.specs.Text.{place_of}

@@ -1,5 +1,4 @@
 -- `Segment::project_local_point_and_get_location` returns `project_segment`, by its tests in order.
-use Rattle.std.proofs.Common.{ap}
 use lib.Ieee.{of_bits}
 use Rattle.number.proofs.Told.{told}
 use Rattle.projection.specs.Segment.{project_segment}

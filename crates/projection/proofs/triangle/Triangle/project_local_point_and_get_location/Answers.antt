@@ -1,5 +1,4 @@
 -- `Triangle::project_local_point_and_get_location` returns `project_triangle`: the corners, then the match on what the edges say.
-use borrow.Author.Rules.{rules}
 use Rattle.projection.specs.Triangle.{project_triangle, located, or_else}
 use Rattle.projection.proofs.triangle.Triangle.project_local_point_and_get_location.Goals as goal
 

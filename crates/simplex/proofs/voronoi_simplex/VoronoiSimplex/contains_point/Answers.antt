@@ -1,5 +1,4 @@
 -- `contains_point` returns `contains_point`.
-use Rattle.std.proofs.Common.{ap}
 use Rattle.number.proofs.Told.{told}
 use Rattle.simplex.specs.Operations.{contains_point}
 use Rattle.simplex.proofs.Laws.{small}

@@ -1,5 +1,4 @@
 -- `dimension` returns `dimension_of`, by its test.
-use Rattle.std.proofs.Common.{ap}
 use Rattle.number.proofs.Told.{told}
 use Rattle.simplex.specs.Operations.{dimension_of}
 use Rattle.simplex.proofs.voronoi_simplex.VoronoiSimplex.dimension.Goals as goal

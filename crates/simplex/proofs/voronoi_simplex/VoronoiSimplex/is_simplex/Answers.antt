@@ -1,6 +1,5 @@
 -- `VoronoiSimplex::is_simplex` returns `is_simplex`, test by test.
 use mathlib.Core.Path.{refl}
-use borrow.Author.Rules.{rules}
 use Rattle.simplex.specs.Simplex.{is_simplex}
 use Rattle.simplex.proofs.voronoi_simplex.VoronoiSimplex.is_simplex.Goals as goal
 

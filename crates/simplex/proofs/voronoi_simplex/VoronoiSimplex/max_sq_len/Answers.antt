@@ -1,5 +1,4 @@
 -- `max_sq_len` returns `max_sq_len`.
-use Rattle.std.proofs.Common.{ap}
 use Rattle.number.proofs.Told.{told}
 use Rattle.simplex.specs.Operations.{max_sq_len}
 use Rattle.simplex.proofs.Laws.{small}

@@ -1,5 +1,4 @@
 -- `point` returns `corner_point`, by its joined test.
-use Rattle.std.proofs.Common.{ap}
 use native.Mathlib.Omega.{arith}
 use Rattle.number.proofs.Told.{told}
 use Rattle.simplex.specs.Operations.{corner_point}
@@ -7,10 +6,10 @@ use Rattle.simplex.proofs.Laws.{one_place}
 use Rattle.simplex.proofs.voronoi_simplex.VoronoiSimplex.point.Goals as goal
 
 pub offset_bounds-self-i : goal.offset_bounds-self-i
-offset_bounds-self-i c = let h = one_place c.args.t1 c.args.i c.args.t1.dim (rw (← c.is_simplex.ensures) c.if-is_simplex-i.true) in omega (arith, h.0.dimension)
+offset_bounds-self-i c = let h = one_place c.args.self c.args.i c.args.self.dim (rw (← c.is_simplex.ensures) c.if-is_simplex-i.true) in omega (arith, h.0.dimension)
 
 pub bounds-self-i : goal.bounds-self-i
-bounds-self-i c = let h = one_place c.args.t1 c.args.i c.args.t1.dim (rw (← c.is_simplex.ensures) c.if-is_simplex-i.true) in omega (arith, h.0.dimension)
+bounds-self-i c = let h = one_place c.args.self c.args.i c.args.self.dim (rw (← c.is_simplex.ensures) c.if-is_simplex-i.true) in omega (arith, h.0.dimension)
 
 pub returns-then-is_simplex-i-clause-answer : goal.returns-then-is_simplex-i-clause-answer
 unfolding corner_point

@@ -1,5 +1,4 @@
 -- `prev_dimension` returns `prev_dimension_of`, by its test.
-use Rattle.std.proofs.Common.{ap}
 use Rattle.number.proofs.Told.{told}
 use Rattle.simplex.specs.Operations.{prev_dimension_of}
 use Rattle.simplex.proofs.voronoi_simplex.VoronoiSimplex.prev_dimension.Goals as goal

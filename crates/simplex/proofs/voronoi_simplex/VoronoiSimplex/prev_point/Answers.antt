@@ -1,5 +1,4 @@
 -- `prev_point` returns `prev_point`, by its joined test.
-use Rattle.std.proofs.Common.{ap}
 use native.Mathlib.Omega.{arith}
 use Rattle.number.proofs.Told.{told}
 use Rattle.simplex.specs.Operations.{prev_point}
@@ -7,16 +6,16 @@ use Rattle.simplex.proofs.Laws.{one_place}
 use Rattle.simplex.proofs.voronoi_simplex.VoronoiSimplex.prev_point.Goals as goal
 
 pub offset_bounds-self-i : goal.offset_bounds-self-i
-offset_bounds-self-i c = let h = one_place c.args.t1 c.args.i c.args.t1.prev_dim (rw (← c.is_simplex.ensures) c.if-is_simplex-i.true) in omega (arith, h.0.previous)
+offset_bounds-self-i c = let h = one_place c.args.self c.args.i c.args.self.prev_dim (rw (← c.is_simplex.ensures) c.if-is_simplex-i.true) in omega (arith, h.0.previous)
 
 pub bounds-self-i : goal.bounds-self-i
-bounds-self-i c = let h = one_place c.args.t1 c.args.i c.args.t1.prev_dim (rw (← c.is_simplex.ensures) c.if-is_simplex-i.true) in omega (arith, h.0.previous)
+bounds-self-i c = let h = one_place c.args.self c.args.i c.args.self.prev_dim (rw (← c.is_simplex.ensures) c.if-is_simplex-i.true) in omega (arith, h.0.previous)
 
 pub offset_bounds-self-place : goal.offset_bounds-self-place
-offset_bounds-self-place c = let h = one_place c.args.t1 c.args.i c.args.t1.prev_dim (rw (← c.is_simplex.ensures) c.if-is_simplex-i.true) in omega (arith, h.0.place-1 c.args.i (omega (arith, h.0.previous)))
+offset_bounds-self-place c = let h = one_place c.args.self c.args.i c.args.self.prev_dim (rw (← c.is_simplex.ensures) c.if-is_simplex-i.true) in omega (arith, h.0.place c.args.i (omega (arith, h.0.previous)))
 
 pub bounds-self-place : goal.bounds-self-place
-bounds-self-place c = let h = one_place c.args.t1 c.args.i c.args.t1.prev_dim (rw (← c.is_simplex.ensures) c.if-is_simplex-i.true) in omega (arith, h.0.place-1 c.args.i (omega (arith, h.0.previous)))
+bounds-self-place c = let h = one_place c.args.self c.args.i c.args.self.prev_dim (rw (← c.is_simplex.ensures) c.if-is_simplex-i.true) in omega (arith, h.0.place c.args.i (omega (arith, h.0.previous)))
 
 pub returns-then-is_simplex-i-clause-answer : goal.returns-then-is_simplex-i-clause-answer
 unfolding prev_point

@@ -1,5 +1,4 @@
 -- `proj_coord` returns `proj_coord`, by its joined test.
-use Rattle.std.proofs.Common.{ap}
 use native.Mathlib.Omega.{arith}
 use Rattle.number.proofs.Told.{told}
 use Rattle.simplex.specs.Operations.{proj_coord}
@@ -7,10 +6,10 @@ use Rattle.simplex.proofs.Laws.{one-weight}
 use Rattle.simplex.proofs.voronoi_simplex.VoronoiSimplex.proj_coord.Goals as goal
 
 pub offset_bounds-self-i : goal.offset_bounds-self-i
-offset_bounds-self-i c = let h = one-weight c.args.t1 c.args.i c.args.t1.dim (rw (← c.is_simplex.ensures) c.if-is_simplex-i.true) in omega arith
+offset_bounds-self-i c = let h = one-weight c.args.self c.args.i c.args.self.dim (rw (← c.is_simplex.ensures) c.if-is_simplex-i.true) in omega arith
 
 pub bounds-self-i : goal.bounds-self-i
-bounds-self-i c = let h = one-weight c.args.t1 c.args.i c.args.t1.dim (rw (← c.is_simplex.ensures) c.if-is_simplex-i.true) in omega arith
+bounds-self-i c = let h = one-weight c.args.self c.args.i c.args.self.dim (rw (← c.is_simplex.ensures) c.if-is_simplex-i.true) in omega arith
 
 pub returns-then-is_simplex-i-clause-answer : goal.returns-then-is_simplex-i-clause-answer
 unfolding proj_coord

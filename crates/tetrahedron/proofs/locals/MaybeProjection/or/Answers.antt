@@ -1,5 +1,4 @@
 -- `MaybeProjection::or` returns `_orElse_`, by its two cases.
-use borrow.Author.Rules.{rules}
 use Rattle.tetrahedron.specs.Tetrahedron.{◌or_else◌}
 use Rattle.tetrahedron.proofs.locals.MaybeProjection.or.Goals as goal
 
