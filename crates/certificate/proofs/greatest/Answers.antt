@@ -1,11 +1,9 @@
 -- The greatest product bounds the first hull: what is above it is above every corner. The loop's invariant: what is above `top`, and above each corner that is left, is above every corner. Assumes nothing.
-use Prim.Native.Nat.{◌+◌}
 use mathlib.Core.Path.{◌≡◌, sym, ap, ◌∙◌}
 use mathlib.Core.Bool.{Bool, ◌&&◌, and-true}
 use native.Mathlib.Omega.{arith}
 use lib.IntN.{ℤ}
 use lib.ListN.{drop}
-use lib.Signed.{lt_z}
 use mir.Syntax.{w64}
 use mir.Val.{to_z, of_z}
 use Rattle.certificate.specs.Certificate.{every, above, corners, product, separated}
@@ -36,15 +34,10 @@ loop-i-preserved c =
     let is = here (goal.at.loop-i-preserved c).After-product-p in (
       omega arith,
       λ second.
-          elim c.if-top-p.branch [
-            | then-top-p w ↦
-                ap (λ (n : ℤ). every (above d n) second && separated d (corners (drop (i + 3) hull)) second) (w.top-is ∙ is)
-                ∙ step-taken d hull i second top inside (ap (lt_z top) (sym is) ∙ w.if-top-p.true)
-            | else-top-p w ↦
-                ap (λ (n : ℤ). every (above d n) second && separated d (corners (drop (i + 3) hull)) second) w.top-is
-                ∙ step_left d hull i second top inside (ap (lt_z top) (sym is) ∙ w.if-top-p.false)
-          ]
-          ∙ c.loop-i.invariant.1 second,
+          let kept = c.loop-i.invariant.1 second in
+          let taken = step-taken d hull i second top inside in
+          let left = step_left d hull i second top inside in
+          grind arith,
     )
 
 pub returns : goal.returns
