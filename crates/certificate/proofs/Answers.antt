@@ -1,5 +1,5 @@
 -- Which answer is given when, of any lists of whole numbers and any direction: refusals 9, 10 and 11 and acceptance, each exactly when the ticket says (`refused-9`, `refused-10`, `refused-11`, `accepted-exactly`); the zero direction is never accepted (`zero-declined`). Assumes nothing.
-use Prim.Native.Nat.{ℕ, ◌/◌, ◌%◌, ◌*◌, ◌≤◌}
+use Prim.Native.Nat.{ℕ, ◌/◌, ◌%◌, ◌≤◌}
 use mathlib.Core.Path.{◌≡◌, refl, sym, ap, ◌∙◌}
 use mathlib.Core.Bool.{Bool, true, false, cond, ◌&&◌, false≢true}
 use mathlib.Core.List.{List, [], ◌∷◌, Memᴰ}
@@ -102,7 +102,7 @@ is-hull : (n : ℕ) → CornersIn n → is_hull n ≡ true
 unfolding is_hull
 is-hull n c =
     let e = c.three_each in
-    let l = c.at-least in
+    let l = c.at_least in
     let m = c.at_most in
     join (join (eq-eqb (n % 3) 0 (omega arith)) (le-leb 1 (n / 3) (omega arith))) (le-leb (n / 3) 64 (omega arith))
 
@@ -236,4 +236,4 @@ zero-declined first second lengths ranges =
     (lengths, ranges, record { a = a.0; b = b.0; of_first = a.1; of_second = b.1; not_smaller = rw (no-product a.0, no-product b.0) (≤ℤ_refl (pos 0)) })
   where
     three-numbers : {n : ℕ} → CornersIn n → 3 ≤ n
-    three-numbers c = let e = c.three_each in let l = c.at-least in omega arith
+    three-numbers c = let e = c.three_each in let l = c.at_least in omega arith

@@ -1,5 +1,5 @@
 -- The definitions of a hull's points are not empty: each corner is a point of its hull (`point`), and a corner of both hulls is a point of both (`common`), so that no direction is accepted then (`never-accepted`). Assumes nothing.
-use Prim.Native.Nat.{ℕ, zero, suc, ◌+◌}
+use Prim.Native.Nat.{ℕ, zero, suc}
 use mathlib.Core.Path.{◌≡◌, refl, sym, ap, ◌∙◌}
 use mathlib.Core.List.{List, [], ◌∷◌, Memᴰ}
 use native.Mathlib.Omega.{arith}
@@ -36,21 +36,25 @@ none-weighted g (c ∷ cs) = ap (λ (x : ℤ). x +ℤ weighted g (none cs) cs) (
 
 -- ---- weight one at a corner
 only : (cs : List GridVector) {c : GridVector} → Memᴰ c cs → List ℕ
+only [] m = elim m [ ]
 only (x ∷ cs) (Memᴰ.head e) = 1 ∷ none cs
 only (x ∷ cs) (Memᴰ.tail m) = 0 ∷ only cs m
 
 only-length : (cs : List GridVector) {c : GridVector} (m : Memᴰ c cs) → length (only cs m) ≡ length cs
 unfolding only
+only-length [] m = elim m [ ]
 only-length (x ∷ cs) (Memᴰ.head e) = ap suc (none-length cs)
 only-length (x ∷ cs) (Memᴰ.tail m) = ap suc (only-length cs m)
 
 only-total : (cs : List GridVector) {c : GridVector} (m : Memᴰ c cs) → total (only cs m) ≡ 1
 unfolding only total
+only-total [] m = elim m [ ]
 only-total (x ∷ cs) (Memᴰ.head e) = let z : total (none cs) ≡ 0 = none-total cs in omega arith
 only-total (x ∷ cs) (Memᴰ.tail m) = let z : total (only cs m) ≡ 1 = only-total cs m in omega arith
 
 only-weighted : (g : GridVector → ℤ) (cs : List GridVector) {c : GridVector} (m : Memᴰ c cs) → weighted g (only cs m) cs ≡ g c
 unfolding only weighted
+only-weighted g [] m = elim m [ ]
 only-weighted g (x ∷ cs) (Memᴰ.head e) = ap (λ (k : ℤ). pos 1 *ℤ g x +ℤ k) (none-weighted g cs) ∙ +ℤ_idr (pos 1 *ℤ g x) ∙ one-times (g x) ∙ ap g (sym e)
 only-weighted g (x ∷ cs) (Memᴰ.tail m) = ap (λ (k : ℤ). k +ℤ weighted g (only cs m) cs) (zero-*ℤ (g x)) ∙ +ℤ_idl (weighted g (only cs m) cs) ∙ only-weighted g cs m
 

@@ -47,6 +47,7 @@ module _ {A : Type 0} (t : A → Bool) where
   -- every element passes: so does each
   pub each : (l : List A) → every t l ≡ true → {x : A} → Memᴰ x l → t x ≡ true
   unfolding every
+  each [] h m = elim m [ ]
   each (y ∷ l) h (Memᴰ.head e) = ap t e ∙ (split (t y) (every t l) h).0
   each (y ∷ l) h (Memᴰ.tail m) = each l (split (t y) (every t l) h).1 m
 

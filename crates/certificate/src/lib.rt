@@ -61,8 +61,8 @@ fn every_on_grid(hull: &[i32]) -> bool
 
 // The corner whose first number has the place i.
 fn corner_at(hull: &[i32], i: usize) -> GridVector
-    requires fact_1 { i + 2 < length hull.now }
-    requires fact_2 { every on_grid hull.now ≡ true }
+    requires in_room { i + 2 < length hull.now }
+    requires hull_in_range { every on_grid hull.now ≡ true }
     ensures place { result ≡ corner_at hull.now i }
     ensures range { vector_on_grid result ≡ true }
 {
@@ -81,8 +81,8 @@ fn times(a: i32, b: i32) -> i64
 
 // Three products up to 2^40 each. Without the range their sum might not fit.
 fn product(d: GridVector, c: GridVector) -> i64
-    requires fact_1 { vector_on_grid d ≡ true }
-    requires fact_2 { vector_on_grid c ≡ true }
+    requires direction_in_range { vector_on_grid d ≡ true }
+    requires corner_in_range { vector_on_grid c ≡ true }
     ensures { result ≡ product d c }
 {
     times(d.x, c.x) + times(d.y, c.y) + times(d.z, c.z)
@@ -90,9 +90,9 @@ fn product(d: GridVector, c: GridVector) -> i64
 
 // The greatest product of a corner: what is above it is above every corner's.
 fn greatest(d: GridVector, hull: &[i32]) -> i64
-    requires fact_1 { vector_on_grid d ≡ true }
-    requires fact_2 { every on_grid hull.now ≡ true }
-    requires fact_3 { 3 ≤ length hull.now }
+    requires direction_in_range { vector_on_grid d ≡ true }
+    requires hull_in_range { every on_grid hull.now ≡ true }
+    requires has_corner { 3 ≤ length hull.now }
     ensures { Bounds d (corners hull.now) result }
 {
     let mut top = product(d, corner_at(hull, 0));
@@ -109,8 +109,8 @@ fn greatest(d: GridVector, hull: &[i32]) -> i64
 
 // Whether every corner's product is above n.
 fn every_above(d: GridVector, n: i64, hull: &[i32]) -> bool
-    requires fact_1 { vector_on_grid d ≡ true }
-    requires fact_2 { every on_grid hull.now ≡ true }
+    requires direction_in_range { vector_on_grid d ≡ true }
+    requires hull_in_range { every on_grid hull.now ≡ true }
     ensures { result ≡ every (above d n) (corners hull.now) }
 {
     let mut i = 0;

@@ -1,5 +1,4 @@
 -- `answer_of` returns `answer_of`, outcome by outcome. Assumes nothing.
-use borrow.Author.Rules.{rules}
 use lib.Ieee.{of_bits}
 use Rattle.vector.specs.Vector.{zero_v}
 use Rattle.answers.specs.Answers.{answer_of}

@@ -1,5 +1,4 @@
 -- `voted_of` returns `voted_of`, verdict by verdict. Assumes nothing.
-use borrow.Author.Rules.{rules}
 use lib.Ieee.{of_bits}
 use Rattle.vector.specs.Vector.{zero_v}
 use Rattle.vote.specs.Vote.{verdict_values, no_answer}

@@ -1,13 +1,7 @@
 use Prim.Native.Nat.{◌-◌, ◌≤◌}
-use mathlib.Core.Path.{◌≡◌, refl, sym, ap, ◌∙◌}
-use native.Mathlib.Omega.{arith}
-use borrow.Author.Rules.{rules}
-use borrow.Author.Tests.{not-true, not-false}
-use lib.IntN.{pos}
-use lib.ListN.{length, drop, get_or}
+use mathlib.Core.Path.{◌≡◌}
+use lib.ListN.{length, drop}
 use Rattle.certificate.specs.Certificate.{every, on_grid}
-use Rattle.certificate.proofs.Sizes.{back-32}
-use Rattle.certificate.proofs.Places.{every-fails, every-passes, every-end}
 use Rattle.certificate.proofs.every_on_grid.Given as goal
 
 abbrev pub invariant-loop-i : goal.invariant-loop-i

@@ -1,56 +1,54 @@
 -- The product of two vectors on the grid: each part is at most 2^40, so that the sums fit. Assumes nothing.
 use mathlib.Core.Path.{◌≡◌}
+use borrow.Author.Rules.{rules}
 use lib.IntN.{◌*ℤ◌}
 use mir.Facts.{to_z-of_z}
+use mir.Syntax.{w32}
+use mir.Val.{SFits}
 use Rattle.certificate.specs.Certificate.{product}
-use Rattle.certificate.proofs.Sizes.{Fitting, back-32, on-grid-fits}
+use Rattle.certificate.proofs.Sizes.{Fitting, on-grid-fits}
 use Rattle.certificate.proofs.product.Goals as goal
-use Rattle.certificate.proofs.product.Goals.{After-times-3, Start}
+use Rattle.certificate.proofs.product.Goals.{After-times-2, After-times-3}
+
+-- the first two products
+record Two (c : After-times-2) : Type 0 where
+  fit : Fitting c.args.d c.args.c
+  first : c.times.result ≡ c.args.d.x *ℤ c.args.c.x
+  second : c.times-2.result ≡ c.args.d.y *ℤ c.args.c.y
+
+two : (c : After-times-2) → Two c
+two c =
+    let dx : SFits w32 c.args.d.x = search rules in
+    let dy : SFits w32 c.args.d.y = search rules in
+    let cx : SFits w32 c.args.c.x = search rules in
+    let cy : SFits w32 c.args.c.y = search rules in
+    record {
+      fit = on-grid-fits c.args.d c.args.c c.requires.direction_in_range c.requires.corner_in_range;
+      first = simp (to_z-of_z dx, to_z-of_z cx) at c.times.ensures;
+      second = simp (to_z-of_z dy, to_z-of_z cy) at c.times-2.ensures;
+    }
+
+third : (c : After-times-3) → c.times-3.result ≡ c.args.d.z *ℤ c.args.c.z
+third c =
+    let dz : SFits w32 c.args.d.z = search rules in
+    let cz : SFits w32 c.args.c.z = search rules in
+    simp (to_z-of_z dz, to_z-of_z cz) at c.times-3.ensures
 
 pub overflow_add-result : goal.overflow_add-result
 overflow_add-result c =
-    let begin = c in
-    let d = begin.args.d in
-    let e = begin.args.c in
-    let d-told = c.struct_told-3-1.given in
-    let e-told = c.struct_told-4-1.given in
-    let fit = on-grid-fits d e begin.requires.0 begin.requires.1 in
-    let first : c.times.result ≡ d.x *ℤ e.x = simp (back-32 d.x d-told.0.1, back-32 e.x e-told.0.1) at c.times.ensures in
-    let second : c.times-2.result ≡ d.y *ℤ e.y = simp (back-32 d.y d-told.1.0.1, back-32 e.y e-told.1.0.1) at c.times-2.ensures in
-    simp (first, second, to_z-of_z fit.first, to_z-of_z fit.second) fit.two
-
--- the three products, as the last call leaves them
-abbrev start : After-times-3 → Start
-start c = c.before.before.before.before.before.before.before.before.before
-
-record Parts (c : After-times-3) : Type 0 where
-  fit : Fitting (start c).args.d (start c).args.c
-  first : c.before.before.before.before.before.before.times.result ≡ (start c).args.d.x *ℤ (start c).args.c.x
-  second : c.before.before.before.times-2.result ≡ (start c).args.d.y *ℤ (start c).args.c.y
-  third : c.times-3.result ≡ (start c).args.d.z *ℤ (start c).args.c.z
-
-parts : (c : After-times-3) → Parts c
-parts c =
-    let d = (start c).args.d in
-    let e = (start c).args.c in
-    let d-told = c.before.before.struct_told-5-1.given in
-    let e-told = c.before.struct_told-6-1.given in
-    record {
-      fit = on-grid-fits d e (start c).requires.0 (start c).requires.1;
-      first = simp (back-32 d.x d-told.0.1, back-32 e.x e-told.0.1) at c.before.before.before.before.before.before.times.ensures;
-      second = simp (back-32 d.y d-told.1.0.1, back-32 e.y e-told.1.0.1) at c.before.before.before.times-2.ensures;
-      third = simp (back-32 d.z d-told.1.1.0.1, back-32 e.z e-told.1.1.0.1) at c.times-3.ensures;
-    }
+    let p = two (goal.at.overflow_add-result c).After-times-2 in
+    let fit = p.fit in
+    simp (p.first, p.second, to_z-of_z fit.first, to_z-of_z fit.second) fit.two
 
 pub overflow_add-result-2 : goal.overflow_add-result-2
 overflow_add-result-2 c =
-    let p = parts c in
+    let p = two (goal.at.overflow_add-result-2 c).After-times-2 in
     let fit = p.fit in
-    simp (p.first, p.second, p.third, to_z-of_z fit.first, to_z-of_z fit.second, to_z-of_z fit.third, to_z-of_z fit.two) fit.three
+    simp (p.first, p.second, third (goal.at.overflow_add-result-2 c).After-times-3, to_z-of_z fit.first, to_z-of_z fit.second, to_z-of_z fit.third, to_z-of_z fit.two) fit.three
 
 pub returns : goal.returns
 unfolding product
 returns c =
-    let p = parts c in
+    let p = two (goal.at.returns c).After-times-2 in
     let fit = p.fit in
-    simp (p.first, p.second, p.third, to_z-of_z fit.first, to_z-of_z fit.second, to_z-of_z fit.third, to_z-of_z fit.two) (to_z-of_z fit.three)
+    simp (p.first, p.second, third (goal.at.returns c).After-times-3, to_z-of_z fit.first, to_z-of_z fit.second, to_z-of_z fit.third, to_z-of_z fit.two) (to_z-of_z fit.three)

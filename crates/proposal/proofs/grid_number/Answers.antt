@@ -19,10 +19,10 @@ pub returns-then-n : goal.returns-then-n
 unfolding grid_number of_bits
 returns-then-n c =
     let n = to_z w64 (of_z w64 c.whole_part-n.result) in
-    to_z-of_z (grid-fits n (there c)) ∙ kept_there n (there c) ∙ ap kept (back-64 c.whole_part-n.result c.whole_part-n.type-inv ∙ c.whole_part-n.ensures)
+    to_z-of_z (grid-fits n (there c)) ∙ kept_there n (there c) ∙ ap kept (back-64 c.whole_part-n.result c.whole_part-n.type_inv ∙ c.whole_part-n.ensures)
 
 pub returns-else-n : goal.returns-else-n
 unfolding grid_number of_bits
 returns-else-n c =
     let n = to_z w64 (of_z w64 c.whole_part-n.result) in
-    kept-not n (sym (range-tested n) ∙ c.if-n.false) ∙ ap kept (back-64 c.whole_part-n.result c.whole_part-n.type-inv ∙ c.whole_part-n.ensures)
+    kept-not n (sym (range-tested n) ∙ c.if-n.false) ∙ ap kept (back-64 c.whole_part-n.result c.whole_part-n.type_inv ∙ c.whole_part-n.ensures)

@@ -19,6 +19,6 @@ returns c =
     let third = c.grid_number-3 in
     let scale = c.reach-scale.ensures in
     same-vector
-    (back-32 first.result first.type-inv ∙ first.ensures ∙ ap (λ (s : Float). grid_number binary32 (◌⊘◌ binary32 start.args.dir.x s)) scale)
-    (back-32 second.result second.type-inv ∙ second.ensures ∙ ap (λ (s : Float). grid_number binary32 (◌⊘◌ binary32 start.args.dir.y s)) scale)
-    (back-32 third.result third.type-inv ∙ third.ensures ∙ ap (λ (s : Float). grid_number binary32 (◌⊘◌ binary32 start.args.dir.z s)) scale)
+    (back-32 first.result first.type_inv ∙ first.ensures ∙ ap (λ (s : Float). grid_number binary32 (◌⊘◌ binary32 start.args.dir.x s)) scale)
+    (back-32 second.result second.type_inv ∙ second.ensures ∙ ap (λ (s : Float). grid_number binary32 (◌⊘◌ binary32 start.args.dir.y s)) scale)
+    (back-32 third.result third.type_inv ∙ third.ensures ∙ ap (λ (s : Float). grid_number binary32 (◌⊘◌ binary32 start.args.dir.z s)) scale)

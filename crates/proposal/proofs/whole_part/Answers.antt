@@ -16,7 +16,7 @@ truncating_f32_to_i64-requires-clause-upper_bound c = subst T (sym c.if-x-2.true
 pub returns-then-x-2 : goal.returns-then-x-2
 unfolding whole_part of_bits neg
 returns-then-x-2 c =
-    back-64 c.truncating_f32_to_i64.result c.truncating_f32_to_i64.type-inv ∙ c.truncating_f32_to_i64.ensures ∙ simp (c.if-x.true, c.if-x-2.true)
+    back-64 c.truncating_f32_to_i64.result c.truncating_f32_to_i64.type_inv ∙ c.truncating_f32_to_i64.ensures ∙ simp (c.if-x.true, c.if-x-2.true)
 
 pub returns-else-x-2 : goal.returns-else-x-2
 unfolding whole_part of_bits neg
