@@ -1,7 +1,7 @@
 -- The one form of the contracts: what a function leaves and answers is what a step of the run does. Definitions only.
 -- A function that is lent some of the lists does so whatever the others hold: its contract is for all k : Lists, of k with the lent lists in their places.
 use Rattle.std.specs.Prelude.{Bool, true, false, ◌≡◌, List, ℕ, Float}
-use Rattle.std.specs.Borrow.{Bor}
+use Rattle.std.specs.Borrow.{MutBor}
 use denote.Triple.Both.{Both}
 use Rattle.vector.specs.declared.pose.Pose.{Pose}
 use Rattle.shape.specs.declared.support.Shape.{Shape}
@@ -69,7 +69,7 @@ entry_of e = entry e.id e.neg_dist
 
 -- a slice that a function is lent, as its contract names it: when it is called, and when it returns
 abbrev pub Lent : Type 0 → Type 0
-Lent X = Both (Bor (List X)) (Bor (List X))
+Lent X = Both (MutBor (List X)) (MutBor (List X))
 
 pub data Moment : Type 0 where
   called : Moment
