@@ -1,11 +1,6 @@
-use native.Mathlib.Omega.{arith}
-use borrow.Author.Rules.{rules}
-use mathlib.Core.Path.{◌≡◌, ap, ◌∙◌}
 use Prim.Native.Nat.{◌≤◌, ◌-◌}
-use lib.Ieee.{binary32, of_bits}
-use Rattle.epa_polytope.specs.Start.{scale_of}
-use Rattle.epa_polytope.proofs.Doing.{place}
-use Rattle.epa_polytope.proofs.Starting.{ScaleLoop, scale-start, scale-grown}
+use lib.Ieee.{binary32}
+use Rattle.epa_polytope.proofs.Starting.{ScaleLoop}
 use Rattle.epa_start.proofs.vertices.scale_of.Given as goal
 
 abbrev pub invariant-loop-i : goal.invariant-loop-i

@@ -1,9 +1,6 @@
-use native.Mathlib.Omega.{arith}
-use borrow.Author.Rules.{rules}
-use Prim.Native.Nat.{◌-◌, ◌<◌}
+use Prim.Native.Nat.{◌-◌}
 use Rattle.epa_polytope.specs.Promises.{single_world}
-use Rattle.epa_polytope.proofs.Doing.{place}
-use Rattle.epa_polytope.proofs.Searching.{SearchLoop, search-starts, found, passed-by, none_left}
+use Rattle.epa_polytope.proofs.Searching.{SearchLoop}
 use Rattle.epa_start.proofs.vertices.second_vertex.Given as goal
 
 abbrev pub invariant-loop-i : goal.invariant-loop-i
