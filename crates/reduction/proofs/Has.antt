@@ -1,6 +1,6 @@
 -- What follows for the numbers of a location that a simplex has: a corner is one of four places (`corner-below`), and a dimension that is none of 0, 1, 2 is 3 (`last-dimension`).
 -- Assumes nothing.
-use mathlib.Core.Path.{◌≡◌, sym, subst}
+use mathlib.Core.Path.{◌≡◌, subst}
 use mathlib.Core.Bool.{true}
 use Prim.Native.Nat.{ℕ, ◌≤◌, ◌<◌}
 use native.Mathlib.Omega.{arith}

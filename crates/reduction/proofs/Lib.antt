@@ -2,4 +2,5 @@
 pub mod Fits
 pub mod Has
 pub mod Swaps
+pub mod Faces
 pub mod Kept

@@ -1,5 +1,5 @@
--- The swaps of a reduction are never refused: on a simplex and places that there are, `swap` is done (`swap-done`), and what is left with the two exchanged is a simplex for the next
--- (`swap-keeps`). The code of this crate exchanges the two itself. Assumes nothing.
+-- The swaps of a reduction are never refused: on a simplex and places that there are, `swap` is done (`swap-done`) and exchanges the two (`swap-is`), and what it leaves is a simplex
+-- for the next (`swap-keeps`). The code of this crate exchanges the two itself. Assumes nothing.
 use mathlib.Core.Path.{◌≡◌, ap}
 use mathlib.Core.Bool.{Bool, true, ◌&&◌}
 use mathlib.Core.List.{List, [], ◌∷◌}
@@ -52,6 +52,10 @@ swap-small s i j li lj h =
       place = λ k lk. still-small (set l i (get_or l j 0)) j (get_or l i 0) k (h.place i li) (still-small l i (get_or l j 0) k (h.place j lj) (h.place k lk));
     }
 
--- what is left is a simplex
+-- what is left is the simplex with the two exchanged, and a simplex
+pub swap-is : (s : VoronoiSimplex) (i j : ℕ) → is_simplex s ≡ true → i < 4 → j < 4 → (swap_simplex s i j).simplex ≡ swap_in s i j
+unfolding swap_simplex
+swap-is s i j h li lj = ap (λ (b : Bool). (altered_or b s (swap_in s i j)).simplex) (tested s i j h li lj)
+
 pub swap-keeps : (s : VoronoiSimplex) (i j : ℕ) → is_simplex s ≡ true → i < 4 → j < 4 → is_simplex (swap_in s i j) ≡ true
 swap-keeps s i j h li lj = is-small (swap_in s i j) (swap-small s i j li lj (small s h))

@@ -5,15 +5,10 @@ use Rattle.std.specs.Float.{Format}
 use Rattle.vector.specs.declared.vec3.Vec3.{Vec3}
 use Rattle.vector.specs.Vector.{one_f, zero_v}
 use Rattle.projection.specs.declared.segment.SegmentPointLocation.{SegmentPointLocation}
-use Rattle.projection.specs.declared.segment.SegmentPointLocation.TheVariants as SegmentPointLocation
 use Rattle.projection.specs.declared.segment.SegmentProjection.{SegmentProjection}
-use Rattle.projection.specs.declared.segment.SegmentProjection.TheVariants as SegmentProjection
 use Rattle.projection.specs.declared.triangle.TrianglePointLocation.{TrianglePointLocation}
-use Rattle.projection.specs.declared.triangle.TrianglePointLocation.TheVariants as TrianglePointLocation
 use Rattle.tetrahedron.specs.declared.TetrahedronPointLocation.{TetrahedronPointLocation}
-use Rattle.tetrahedron.specs.declared.TetrahedronPointLocation.TheVariants as TetrahedronPointLocation
 use Rattle.tetrahedron.specs.declared.TetrahedronProjection.{TetrahedronProjection}
-use Rattle.tetrahedron.specs.declared.TetrahedronProjection.TheVariants as TetrahedronProjection
 use Rattle.projection.specs.Values.{Values}
 use Rattle.projection.specs.Segment.{project_segment}
 use Rattle.projection.specs.Triangle.{project_triangle}

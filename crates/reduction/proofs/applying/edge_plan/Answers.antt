@@ -1,5 +1,4 @@
 -- `edge_plan` returns `edge_plan`.
-use borrow.Author.Rules.{rules}
 use Rattle.reduction.proofs.applying.edge_plan.Goals as goal
 
 pub returns : goal.returns

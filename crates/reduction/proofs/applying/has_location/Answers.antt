@@ -1,5 +1,4 @@
 -- `has_location` returns `has_location`, location by location.
-use borrow.Author.Rules.{rules}
 use Rattle.reduction.specs.Reduction.{has_location}
 use Rattle.reduction.proofs.applying.has_location.Goals as goal
 

@@ -1,6 +1,5 @@
 -- `segment_plan` plans `reduce_segment`, location by location.
 use mathlib.Core.Path.{refl}
-use borrow.Author.Rules.{rules}
 use borrow.Author.Tests.{eq-eqb, ne_eqb}
 use native.Mathlib.Omega.{arith}
 use Rattle.simplex.specs.Simplex.{swap_in}

@@ -1,6 +1,5 @@
 -- `tetrahedron_plan` plans `reduce_tetrahedron`, location by location.
 use mathlib.Core.Path.{refl}
-use borrow.Author.Rules.{rules}
 use native.Mathlib.Omega.{arith}
 use Rattle.simplex.specs.Simplex.{swap_in}
 use Rattle.reduction.specs.Reduction.{place_in, to_first, to_vertex, reduce_tetrahedron}

@@ -1,5 +1,4 @@
 -- `vertex_plan` returns `vertex_plan`.
-use borrow.Author.Rules.{rules}
 use lib.Ieee.{of_bits}
 use Rattle.reduction.proofs.applying.vertex_plan.Goals as goal
 

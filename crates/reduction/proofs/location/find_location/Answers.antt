@@ -1,5 +1,4 @@
 -- `find_location` returns `find_location`, dimension by dimension.
-use borrow.Author.Rules.{rules}
 use borrow.Author.Tests.{eq-eqb, ne_eqb}
 use Rattle.reduction.specs.Reduction.{find_location}
 use Rattle.reduction.proofs.location.find_location.Goals as goal

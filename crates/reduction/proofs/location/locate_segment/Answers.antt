@@ -1,5 +1,4 @@
 -- `locate_segment` returns `locate_segment`.
-use borrow.Author.Rules.{rules}
 use lib.Ieee.{of_bits}
 use Rattle.vector.specs.Vector.{zero_v}
 use Rattle.reduction.specs.Reduction.{locate_segment}

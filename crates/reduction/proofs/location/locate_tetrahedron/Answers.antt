@@ -1,5 +1,4 @@
 -- `locate_tetrahedron` returns `locate_tetrahedron`.
-use borrow.Author.Rules.{rules}
 use lib.Ieee.{of_bits}
 use Rattle.vector.specs.Vector.{zero_v}
 use Rattle.reduction.specs.Reduction.{locate_tetrahedron}

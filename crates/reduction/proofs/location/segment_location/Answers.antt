@@ -1,5 +1,4 @@
 -- `segment_location` returns `segment_location`, case by case.
-use borrow.Author.Rules.{rules}
 use Rattle.reduction.specs.Reduction.{segment_location}
 use Rattle.reduction.proofs.location.segment_location.Goals as goal
 

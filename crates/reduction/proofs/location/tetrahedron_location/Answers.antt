@@ -1,5 +1,4 @@
 -- `tetrahedron_location` returns `tetrahedron_location`, case by case.
-use borrow.Author.Rules.{rules}
 use Rattle.reduction.specs.Reduction.{tetrahedron_location}
 use Rattle.reduction.proofs.location.tetrahedron_location.Goals as goal
 

@@ -1,5 +1,4 @@
 -- `triangle_location` returns `triangle_location`, case by case.
-use borrow.Author.Rules.{rules}
 use Rattle.reduction.specs.Reduction.{triangle_location}
 use Rattle.reduction.proofs.location.triangle_location.Goals as goal
 
