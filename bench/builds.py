@@ -64,8 +64,8 @@ def port():
     if platform.machine() != "x86_64":
         say(f"the kit compiles for x86-64, and this is {platform.machine()}: the port is the program of bench/native, and its library is left out")
         return must_run(["bench/native", "separation"], otherwise).strip(), None
-    must_run(["rt", "check", "separation"], otherwise)
-    must_run(["rt", "staticlib", "embedding"], otherwise)
+    must_run(["tools/built", "separation"], otherwise)
+    must_run(["tools/built", "embedding"], otherwise)
     return "target/bin/separation", "target/staticlib/libembedding.a"
 
 

@@ -41,7 +41,7 @@ calls_driver heap OPERATIONS SEED    push, pop and peek in runs
 calls_driver polytope COUNT SEED     COUNT runs from any simplex over stores of any length, the families in turn
 calls_driver plain COUNT SEED        the same with the plain walk, which has a store more
 calls_driver bench                   ns per root beside the hardware's
-The program is target/bin/calls (rt check calls), or the one that CALLS names.
+The program is target/bin/calls (tools/built calls), or the one that CALLS names.
 ";
 
 /// Compares by calls, so many and from a seed.

@@ -70,7 +70,7 @@ pub fn start() -> (Child, ChildStdin, ChildStdout) {
         piped.spawn()
     };
     let mut child = program().and_then(spawn).unwrap_or_else(|error| {
-        eprintln!("calls_driver: {BUILT}, which `rt check calls` builds, or the program that CALLS names does not start: {error}");
+        eprintln!("calls_driver: {BUILT}, which `tools/built calls` builds, or the program that CALLS names does not start: {error}");
         exit(3)
     });
     let input = child.stdin.take().expect("it has an input");
