@@ -10,13 +10,10 @@ use lib.ListN.{length, get_or}
 use lib.Dec.{ltb, eqb}
 use lib.Ieee.{Float}
 use borrow.Author.Tests.{eq-eqb, ne_eqb, ltb-false}
-use denote.Enum.Declared.{tag_of}
-use types.Run.{OneOf, miss}
 use Rattle.heap.specs.Heap.{Heap, Entry, heap, entry, entry_at, popped}
 use Rattle.heap.specs.Calls.{After, after, leaves, pop_of, pop_in}
 use Rattle.heap.specs.declared.Popped.{Popped}
 use Rattle.heap.specs.declared.Popped.TheVariants as Pop
-use Rattle.heap.specs.contracts.Popped as of-popped
 use Rattle.epa_polytope.specs.Stores.{Lists, state_of, with_deleted, with_heap, heap_count}
 use Rattle.epa_polytope.specs.Steps.{Out, branch, pure, look, put, ◌>>=◌, ◌>>◌}
 use Rattle.epa_polytope.specs.Run.{pop_entry, pop_live}
@@ -68,14 +65,14 @@ first_out hi hk (suc n) hi' hk' f key j e = by (ltb n (min (length hi) (length h
         record { one_fewer = ap suc (sym s.2); is = rw (sym s.0, sym s.1); rest = subst (λ (i : ℕ). heap hi' hk' i ≡ popped h i) (sym s.2) back }
     by false e = absurd (no_room (ap (λ (x : After Popped). x.answer) e))
 
-none_out : (hi : List ℕ) (hk : List Float) (k : ℕ) (hi' : List ℕ) (hk' : List Float) (x : Popped) → k ≤ min (length hi) (length hk) → OneOf (1 ∷ 2 ∷ []) (tag_of of-popped.the_type x)
-    → after hi' hk' x ≡ pop_of (heap hi hk k) → (k ≡ 0) × (hi' ≡ hi) × (hk' ≡ hk)
+none_out : (hi : List ℕ) (hk : List Float) (k : ℕ) (hi' : List ℕ) (hk' : List Float) (x : Popped) → k ≤ min (length hi) (length hk)
+    → ((f : ℕ) (key : Float) (j : ℕ) → x ≡ Pop.First f key j → ⊥) → after hi' hk' x ≡ pop_of (heap hi hk k) → (k ≡ 0) × (hi' ≡ hi) × (hk' ≡ hk)
 unfolding pop_of pop_in
 none_out hi hk zero hi' hk' x l t e = (refl, ap (λ (y : After Popped). y.faces) e, ap (λ (y : After Popped). y.keys) e)
 none_out hi hk (suc n) hi' hk' x l t e = by (ltb n (min (length hi) (length hk))) refl e
   where
     by : (b : Bool) → ltb n (min (length hi) (length hk)) ≡ b → after hi' hk' x ≡ pop_by hi hk n b → (suc n ≡ 0) × (hi' ≡ hi) × (hk' ≡ hk)
-    by true q e = absurd (miss (1 ∷ 2 ∷ []) 0 tt (subst (λ (y : Popped). OneOf (1 ∷ 2 ∷ []) (tag_of of-popped.the_type y)) (ap (λ (y : After Popped). y.answer) e) t))
+    by true q e = absurd (t _ _ _ (ap (λ (y : After Popped). y.answer) e))
     by false q e = let o : ⊥ = omega (arith, ltb-false n (min (length hi) (length hk)) q) in absurd o
 
 -- ---- the loop
@@ -99,7 +96,7 @@ whole d hi hk c k = pop_live c.heap (state_of (lent_to d hi hk k) c)
 
 module _ {d hi0 : List ℕ} {hk0 : List Float} {c0 : Tally} {hi : List ℕ} {hk : List Float} {c : Tally} (h : PopLoop d hi0 hk0 c0 hi hk c) {hi' : List ℕ} {hk' : List Float} {x : Popped}
     (e : after hi' hk' x ≡ pop_of (heap hi hk c.heap)) where
-  pub pop-empty : OneOf (1 ∷ 2 ∷ []) (tag_of of-popped.the_type x) → (k : Lists)
+  pub pop-empty : ((f : ℕ) (key : Float) (j : ℕ) → x ≡ Pop.First f key j → ⊥) → (k : Lists)
       → Does pop_out (pop_live c0.heap) (lent_to d hi0 hk0 k) c0 (lent_to d hi' hk' k) (record { entry = MaybeFaceId.None; tally = c })
   unfolding pop_live pure
   pop-empty t k =

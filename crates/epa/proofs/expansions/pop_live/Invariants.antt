@@ -1,7 +1,4 @@
-use mathlib.Core.Path.{◌∙◌}
-use borrow.Author.Rules.{rules}
-use Rattle.epa_polytope.proofs.Doing.{place}
-use Rattle.epa_polytope.proofs.Popping.{PopLoop, pop-starts, pop-empty, pop-live, pop-less, pop-again}
+use Rattle.epa_polytope.proofs.Popping.{PopLoop}
 use Rattle.epa.proofs.expansions.pop_live.Given as goal
 
 abbrev pub invariant-loop-face : goal.invariant-loop-face
