@@ -6,20 +6,12 @@ use Rattle.epa_polytope.proofs.Doing.{place}
 use Rattle.stream.specs.Stream.{line_for, turn_of}
 use Rattle.stream.proofs.Turns.{whole, none, lined}
 use Rattle.stream.proofs.answer_next.Goals as goal
-use Rattle.stream.proofs.answer_next.Goals.{After-line_turn, After-read_next-read, After-separate-outcome}
-
--- where the channel has answered, and what was read
-abbrev separated : After-line_turn → After-separate-outcome
-separated c = search
-
-abbrev read : After-separate-outcome → After-read_next-read
-read c = search
 
 pub returns-in-Whole : goal.returns-in-Whole
 unfolding turn_of
 returns-in-Whole c =
-    whole binary32 _ _ _ _ _ _ (line_for binary32 _ _) _ (read (separated (search))).read_next.ensures c.in-Whole.is
-    (lined binary32 _ _ _ _ _ (separated (search)).separate.ensures.0 c.write_line-written.ensures) c.line_turn.ensures
+    whole binary32 _ _ _ _ _ _ (line_for binary32 _ _) _ c.read_next-read.ensures c.in-Whole.is
+    (lined binary32 _ _ _ _ _ c.separate-outcome.ensures.answer c.write_line-written.ensures) c.line_turn.ensures
 
 pub returns-in-Over : goal.returns-in-Over
 unfolding turn_of

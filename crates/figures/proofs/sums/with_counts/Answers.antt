@@ -4,9 +4,4 @@ use Rattle.figures.proofs.sums.with_counts.Goals as goal
 
 pub returns : goal.returns
 unfolding with_counts
-returns c =
-    let b : tie.After-beats = search in
-    let s : tie.After-wrapping-add-u64 = search in
-    let n : tie.After-wrapping-add-u642 = search in
-    let g : tie.After-either = search in
-    rw (s.wrapping_add_u64.ensures, n.wrapping_add_u64-2.ensures, g.either.ensures, c.either-2.ensures, b.beats-greater.ensures)
+returns c = rw (c.wrapping_add_u64.ensures.value, c.wrapping_add_u64-2.ensures.value, c.either.ensures, c.either-2.ensures, c.beats-greater.ensures)

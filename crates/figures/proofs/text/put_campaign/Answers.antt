@@ -7,14 +7,9 @@ use Rattle.figures.proofs.text.put_campaign.Goals as goal
 
 pub put_stop-requires : goal.put_stop-requires
 put_stop-requires c =
-    let t : tie.After-put-text = search in
-    let g : tie.After-put-figures = search in
-    omega (arith, t.put_text-numbers.ensures.place, t.put_text-numbers.kept.0, within 231 g.put_figures-last.ensures (figures-length _), g.put_figures-last.kept.0)
+    omega (arith, c.put_text-numbers.ensures.place, within 231 c.put_figures-last.ensures (figures-length _))
 
 pub returns : goal.returns
 unfolding campaign_text first_line
 returns c =
-    let t : tie.After-put-text = search in
-    let g : tie.After-put-figures = search in
-    let s : tie.After-put-stop = search in
-    then (then t.put_text-numbers.ensures g.put_figures-last.ensures) s.put_stop.ensures
+    then (then c.put_text-numbers.ensures c.put_figures-last.ensures) c.put_stop.ensures

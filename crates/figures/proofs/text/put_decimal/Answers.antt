@@ -6,7 +6,5 @@ use Rattle.figures.proofs.text.put_decimal.Goals as goal
 
 pub returns : goal.returns
 returns c =
-    let w : tie.After-write-decimal = search in
-    let s : tie.Start = search in
-    let a = s.args in
-    rw c.next_or.ensures (placed-put _ _ _ _ _ w.write_decimal.ensures (omega (arith, number-length a.n)))
+    let a = c.args in
+    rw c.next_or.ensures (placed-put _ _ _ _ _ c.write_decimal.ensures (omega (arith, number-length a.n)))

@@ -10,8 +10,8 @@ returns-in-File c = rw c.in-File.is (nothing _ _)
 
 pub returns-in-Bad : goal.returns-in-Bad
 unfolding stop_text
-returns-in-Bad c = let s : tie.After-stop = search in let b : tie.After-put-bad = search in rw s.in-Bad.is b.put_bad.ensures
+returns-in-Bad c = rw c.in-Bad.is c.put_bad.ensures
 
 pub returns-in-TooMany : goal.returns-in-TooMany
 unfolding stop_text
-returns-in-TooMany c = let s : tie.After-enum-told2 = search in let b : tie.After-put-text = search in rw s.in-TooMany.is b.put_text.ensures
+returns-in-TooMany c = rw c.in-TooMany.is c.put_text.ensures

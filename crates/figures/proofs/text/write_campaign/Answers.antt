@@ -6,16 +6,14 @@ use Rattle.figures.proofs.Placing.{campaign-length}
 use Rattle.figures.proofs.text.write_campaign.Goals as goal
 
 pub slice_bounds-text-end : goal.slice_bounds-text-end
-slice_bounds-text-end c = let p : tie.After-put-campaign = search in let a = p.args in omega (arith, p.put_campaign-n.ensures.place, campaign-length a.figures a.stop)
+slice_bounds-text-end c = let a = c.args in omega (arith, c.put_campaign-n.ensures.place, campaign-length a.figures a.stop)
 
 pub slice_bounds-place-end : goal.slice_bounds-place-end
 slice_bounds-place-end c =
-    let p : tie.After-put-campaign = search in
-    let a = p.args in
-    sym (length-take-le _ _ (omega (arith, p.put_campaign-n.ensures.place, p.put_campaign-n.kept.0, campaign-length a.figures a.stop)))
+    let a = c.args in
+    sym (length-take-le _ _ (omega (arith, c.put_campaign-n.ensures.place, campaign-length a.figures a.stop)))
 
 pub returns : goal.returns
 returns c =
-    let p : tie.After-put-campaign = search in
-    let a = p.args in
-    c.place.ensures ∙ ap (place_of a.out.now a.at) (front p.put_campaign-n.ensures (omega (arith, campaign-length a.figures a.stop)))
+    let a = c.args in
+    c.place.ensures ∙ ap (place_of a.out.now a.at) (front c.put_campaign-n.ensures (omega (arith, campaign-length a.figures a.stop)))
