@@ -17,7 +17,7 @@ overflow_add-live c = omega (arith, live-most c.loop-i.i c.args.deleted.now)
 pub loop-i-preserved : goal.loop-i-preserved
 loop-i-preserved c =
     elim c.if-deleted_at-eq0.branch [
-        then-deleted_at-eq0 w ↦ (omega arith, live_more _ _ _ (sym c.deleted_at.ensures ∙ w.if-deleted_at-eq0.true) c.loop-i.invariant.1 w.live-is)
+      | then-deleted_at-eq0 w ↦ (omega arith, live_more _ _ _ (sym c.deleted_at.ensures ∙ w.if-deleted_at-eq0.true) c.loop-i.invariant.1 w.live-is)
       | else-deleted_at-eq0 w ↦ (omega arith, live_same _ _ _ (λ z. w.if-deleted_at-eq0.false (c.deleted_at.ensures ∙ z)) c.loop-i.invariant.1 w.live-is)
     ]
 
