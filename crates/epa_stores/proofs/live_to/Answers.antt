@@ -1,7 +1,7 @@
 -- What `live_to` returns: as many as are live among those passed. Assumes nothing.
 use native.Mathlib.Omega.{arith}
-use mathlib.Core.Path.{◌≡◌, refl, sym, ap, ◌∙◌}
-use Prim.Native.Nat.{ℕ, ◌≤◌, ◌-◌}
+use mathlib.Core.Path.{refl, sym, ap, ◌∙◌}
+use Prim.Native.Nat.{ℕ}
 use Rattle.epa_polytope.specs.Stores.{live_to}
 use Rattle.epa_polytope.proofs.Lists.{live-most, live_more, live_same}
 use Rattle.epa_stores.proofs.live_to.Goals as goal
