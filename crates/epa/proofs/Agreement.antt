@@ -1,21 +1,20 @@
 -- CHANNELS AGREE, of the polytope's answers: on the same shapes, pose and simplex, over lists of any lengths and any former content, two answers that are not refused for room are one
 -- answer with one row of counts, and leave the same content up to the counts. By the agreement of runs. Any format. Assumes nothing.
-use mathlib.Core.Path.{◌≡◌, sym, ap, ◌∙◌}
+use mathlib.Core.Path.{◌≡◌, ap, ◌∙◌}
 use lib.Ieee.{Format}
 use Rattle.vector.specs.declared.pose.Pose.{Pose}
 use Rattle.shape.specs.declared.support.Shape.{Shape}
 use Rattle.simplex.specs.declared.voronoi_simplex.VoronoiSimplex.{VoronoiSimplex}
-use Rattle.epa_polytope.specs.declared.types.End.{End}
 use Rattle.epa_polytope.specs.declared.types.End.TheVariants.{NoRoom as no_room}
 use Rattle.epa_polytope.specs.declared.types.Store.{Store}
-use Rattle.epa_polytope.specs.Stores.{Lists, State}
+use Rattle.epa_polytope.specs.Stores.{Lists}
 use Rattle.epa_polytope.specs.declared.types.Walk.{Walk}
 use Rattle.epa_polytope.specs.Start.{world_of, walked_as}
 use Rattle.epa_polytope.specs.Same.{Same, SameEnd, Equivalent}
 use Rattle.epa_polytope.proofs.Agreement.{agreement, no_difference}
 use Rattle.epa.specs.Final.{Final, penetration, HadRoom}
 use Rattle.epa.specs.declared.types.Answer.{Answer}
-use Rattle.epa.proofs.Ample.{Reported, reported}
+use Rattle.epa.proofs.Ample.{reported}
 
 module _ (walk : Walk) (f : Format) (m : Pose) (g1 g2 : Shape) (x : VoronoiSimplex) (l k : Lists) where
   -- one answer, and the same content of the stores that both leave, up to the counts

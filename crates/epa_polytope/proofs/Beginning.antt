@@ -7,7 +7,6 @@ use Rattle.epa_polytope.specs.declared.types.End.{End}
 use Rattle.epa_polytope.specs.declared.types.Step.{Step}
 use Rattle.epa_polytope.specs.declared.types.Step.TheVariants.{Onward, Ended}
 use Rattle.epa_polytope.specs.declared.types.Begun.{Begun}
-use Rattle.epa_polytope.specs.declared.types.Begun.TheVariants as Begun
 use Rattle.epa_polytope.specs.Stores.{Lists, none_yet, state_of}
 use Rattle.epa_polytope.specs.Steps.{Out, onward, ended, next, Act, Nil, pure, ◌>>◌}
 use Rattle.epa_polytope.specs.Start.{World, format_of, dist_tol, start_faces, begin}

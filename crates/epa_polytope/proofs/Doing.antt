@@ -5,9 +5,7 @@ use mathlib.Core.List.{[]}
 use Rattle.epa_polytope.specs.declared.types.Step.{Step}
 use Rattle.epa_polytope.specs.declared.types.Step.TheVariants.{Onward, Ended}
 use Rattle.epa_polytope.specs.declared.types.Begun.{Begun}
-use Rattle.epa_polytope.specs.declared.types.Begun.TheVariants as Begun
 use Rattle.epa_polytope.specs.declared.types.Visited.{Visited}
-use Rattle.epa_polytope.specs.declared.types.Visited.TheVariants as Visited
 use lib.Ieee.{Float}
 use Rattle.epa_polytope.specs.Run.{Best}
 use Rattle.epa_polytope.specs.Stores.{Lists, Tally, State, state_of}

@@ -1,14 +1,13 @@
 -- Two passes by either walk, of runs whose stores are the same up to the counts: they go the same way, unless one of them finds no room. Assumes nothing.
-use mathlib.Core.Path.{◌≡◌, refl, sym, ap, subst, ◌∙◌}
+use mathlib.Core.Path.{◌≡◌, refl, sym, ap, subst}
 use mathlib.Core.Bool.{false}
 use mathlib.Core.List.{List}
-use Prim.Native.Nat.{ℕ, ◌+◌, ◌*◌, ◌/◌, ◌<◌, ◌≤◌}
+use Prim.Native.Nat.{ℕ, ◌+◌, ◌*◌, ◌<◌}
 use native.Mathlib.Omega.{arith}
-use lib.ListN.{length}
-use Rattle.epa_polytope.specs.Stores.{State, Tally, live, room_for, the_edges, the_pending}
+use Rattle.epa_polytope.specs.Stores.{State, Tally, room_for, the_edges, the_pending}
 use Rattle.epa_polytope.specs.Steps.{Numbers}
 use Rattle.epa_polytope.specs.Start.{Walk, recursive, plain}
-use Rattle.epa_polytope.specs.Silhouette.{Question, Mesh, Walked, facing, with_missed, pass}
+use Rattle.epa_polytope.specs.Silhouette.{Question, Mesh, Walked, facing}
 use Rattle.epa_polytope.specs.PlainWalk.{Walking, walking}
 use Rattle.epa_polytope.specs.Expansion.{can_be_seen_by, mesh_of, before_pass, pass_by}
 use Rattle.epa_polytope.specs.Bounds.{NeighboursIn}

@@ -1,5 +1,5 @@
 -- A pass by either walk: what holds of it, told once. Assumes nothing.
-use mathlib.Core.Path.{◌≡◌, refl, sym, ap, subst, ◌∙◌}
+use mathlib.Core.Path.{◌≡◌, refl, sym, ap, subst}
 use mathlib.Core.Bool.{false}
 use mathlib.Core.List.{List}
 use Prim.Native.Nat.{ℕ, ◌+◌, ◌*◌, ◌/◌, ◌<◌, ◌≤◌}
@@ -9,13 +9,13 @@ use Rattle.epa_polytope.specs.Stores.{State, live_to, live}
 use Rattle.epa_polytope.specs.Steps.{Numbers}
 use Rattle.epa_polytope.specs.Start.{Walk, recursive, plain}
 use Rattle.epa_polytope.specs.Silhouette.{Question, WalkAnswer, Done, Mesh, Walked, facing, recorded_of}
-use Rattle.epa_polytope.specs.PlainWalk.{Walking, walking, plain_pass}
+use Rattle.epa_polytope.specs.PlainWalk.{walking, plain_pass}
 use Rattle.epa_polytope.specs.Expansion.{mesh_of, before_pass, pass_by}
 use Rattle.epa_polytope.specs.Bounds.{NeighboursIn}
 use Rattle.epa_polytope.specs.Rule.{Returned}
 use Rattle.epa_polytope.proofs.Basics.{no_edges}
 use Rattle.epa_polytope.proofs.Places.{none-used}
-use Rattle.epa_polytope.proofs.Walks.{Asked, asked-facing, asked_of, edge_room, Recorded, Reached, reached-pass, spent-pass, fewer-pass, kept-pass, misses-pass, same-marks-pass}
+use Rattle.epa_polytope.proofs.Walks.{Asked, asked-facing, asked_of, edge_room, Recorded, reached-pass, spent-pass, fewer-pass, kept-pass, misses-pass, same-marks-pass}
 use Rattle.epa_polytope.proofs.Moves.{pass_from}
 use Rattle.epa_polytope.proofs.PlainWalks.{plain-rests, rests-empty}
 use Rattle.epa_polytope.proofs.PlainPasses.{Steady, steady-start, steady-pass}

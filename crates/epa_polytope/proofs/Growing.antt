@@ -2,12 +2,10 @@
 use mathlib.Core.Path.{◌≡◌, refl, ap, ◌∙◌}
 use mathlib.Core.Bool.{Bool, true, false}
 use mathlib.Core.List.{List}
-use Prim.Native.Nat.{ℕ, ◌+◌, ◌-◌, ◌*◌, ◌%◌, ◌^◌, ◌<◌, ◌≤◌, suc, min, ◌/◌}
-use lib.ListN.{length, get_or, set}
+use Prim.Native.Nat.{ℕ, ◌+◌, ◌-◌, ◌*◌, ◌%◌, ◌^◌, ◌<◌, ◌≤◌, suc}
+use lib.ListN.{length, get_or}
 use lib.Ieee.{Float, lt, neg}
 use lib.Dec.{leb}
-use mir.Syntax.{w64}
-use mir.Val.{Fits}
 use borrow.Author.Tests.{leb-false, eq-eqb, ne_eqb}
 use native.Mathlib.Omega.{arith}
 use Rattle.vector.specs.declared.vec3.Vec3.{Vec3}
@@ -22,9 +20,9 @@ use Rattle.epa_polytope.specs.declared.types.End.{End}
 use Rattle.epa_polytope.specs.declared.types.Step.{Step}
 use Rattle.epa_polytope.specs.declared.types.Step.TheVariants.{Onward, Ended}
 use Rattle.epa_polytope.proofs.Lists.{next_one, next-two}
-use Rattle.epa_polytope.specs.Stores.{Lists, state_of, with_face_ids, with_face_floats, with_heap, room_for, face_room, corner_in, linked_in, vertex_at, normal_of}
+use Rattle.epa_polytope.specs.Stores.{Lists, state_of, with_face_ids, face_room, corner_in, linked_in, vertex_at, normal_of}
 use Rattle.epa_polytope.specs.Steps.{Numbers, Out, Nil, next, three, answer_of, answer, stop, queue_face, push_face, ok, stop_if, branch, do_if, put, look, ◌>>=◌, ◌>>◌}
-use Rattle.epa_polytope.specs.Expansion.{queue_new, link, edge_face, edge_corner, grow_at, grow, grow_all}
+use Rattle.epa_polytope.specs.Expansion.{queue_new, link, edge_face, grow_at, grow, grow_all}
 use Rattle.epa_polytope.specs.Promises.{Does, step_out}
 
 -- ---- a new face lies so far along its normal as its first corner; it is nearer than the one that is expanded, or queued

@@ -2,7 +2,6 @@
 use mathlib.Core.Path.{◌≡◌, refl, sym, ap, subst, ◌∙◌}
 use mathlib.Core.Bool.{Bool, true, false, cond}
 use mathlib.Core.List.{List}
-use mathlib.Core.Option.{some}
 use Prim.Native.Nat.{ℕ, zero, suc, ◌+◌, ◌-◌, ◌*◌, ◌/◌, ◌%◌, ◌<◌, ◌≤◌}
 use native.Mathlib.Omega.{arith}
 use native.Mathlib.Decide.{ℕ_discrete, dec_le}
@@ -13,11 +12,11 @@ use Rattle.heap.specs.Heap.{Entry}
 use Rattle.epa_polytope.specs.Silhouette.{WalkAnswer, Done, NoRoom, facing, recorded_of}
 use Rattle.epa_polytope.specs.PlainWalk.{Walking}
 use Rattle.epa_polytope.specs.Start.{Walk}
-use Rattle.epa_polytope.specs.Stores.{State, the_edges, the_pending, live_to, live, corner_at, Made, room_for, the_faces, neighbour_in, linked_in, the_heap, heap_of}
+use Rattle.epa_polytope.specs.Stores.{State, the_edges, the_pending, live, corner_at, Made, room_for, the_faces, neighbour_in, linked_in, the_heap, heap_of}
 use Rattle.epa_polytope.specs.Steps.{End, no_room, key_later, Found, new_face_nearer, ◌>>=◌, ◌>>◌, Nil, look, put, do_if, push_face, answer_of, answer, made_of, three, Numbers}
 use Rattle.epa_polytope.specs.Expansion.{delete, mesh_of, before_pass, after_pass, passed_if, passed, silhouette, link, Expansion, queue_new, grow_at, grow, grow_all, clear_edges, expand, regrow, close_ring}
 use Rattle.epa_polytope.specs.Bounds.{Good, Sound, bound, Within, Tight, with_all, Part, the_loop, under_way, under_way_found, Ended, FromPoint, CornersIn, NeighboursIn}
-use Rattle.epa_polytope.proofs.Basics.{at_set, in-set, all-as, EdgesIn, no_edges, corners-linked, neighbours-linked, neighbours-as, corners-put, neighbours-put, but-second, live-delete, live-push}
+use Rattle.epa_polytope.proofs.Basics.{at_set, in-set, all-as, EdgesIn, corners-linked, neighbours-linked, neighbours-as, corners-put, neighbours-put, but-second, live-delete, live-push}
 use Rattle.epa_polytope.proofs.Sizes.{bound-suc}
 use Rattle.epa_polytope.proofs.Heaps.{good-pushed}
 use Rattle.epa_polytope.proofs.Walks.{asked_of, Recorded}

@@ -14,7 +14,7 @@ use Rattle.epa_polytope.specs.Start.{World, format_of}
 use Rattle.epa_polytope.specs.Stores.{State, normal_at, room_for, the_vertices, heap_of}
 use Rattle.epa_polytope.specs.Steps.{End, Found, ◌>>=◌, ◌>>◌, pure, look, put, answer_of, answer, converged, stuck, heap_empty, enough_expansions}
 use Rattle.epa_polytope.specs.Run.{pop_entry, pop_live, Best, bettered, complete, visit, settle, visit_if, iterate, loop}
-use Rattle.epa_polytope.specs.Bounds.{Good, bound, Within, Tight, with_all, the_loop, under_way, under_way_found, FromPoint}
+use Rattle.epa_polytope.specs.Bounds.{Good, Within, Tight, with_all, the_loop, under_way, under_way_found, FromPoint}
 use Rattle.epa_polytope.proofs.Basics.{all-as, corners-as}
 use Rattle.epa_polytope.proofs.Sizes.{bound-suc}
 use Rattle.epa_polytope.proofs.Heaps.{good-popped}

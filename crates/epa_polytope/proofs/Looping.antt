@@ -2,7 +2,7 @@
 -- so that the heap's entries have a place each and no count is above 101. For any world. Assumes nothing.
 use mathlib.Core.Path.{◌≡◌, refl, sym, ap, subst, ◌∙◌}
 use mathlib.Core.Option.{Option}
-use Prim.Native.Nat.{ℕ, zero, suc, ◌-◌, ◌<◌, ◌≤◌}
+use Prim.Native.Nat.{ℕ, suc, ◌-◌, ◌<◌, ◌≤◌}
 use native.Mathlib.Omega.{arith}
 use lib.Ieee.{Float}
 use Rattle.simplex.specs.declared.voronoi_simplex.VoronoiSimplex.{VoronoiSimplex}
@@ -14,20 +14,17 @@ use Rattle.epa_polytope.specs.declared.types.Found.TheVariants.{EnoughExpansions
 use Rattle.epa_polytope.specs.declared.types.Store.TheVariants.{Heap as the_heap}
 use Rattle.epa_polytope.specs.declared.types.Tally.{Tally}
 use Rattle.epa_polytope.specs.declared.types.Visited.{Visited}
-use Rattle.epa_polytope.specs.declared.types.Visited.TheVariants as Visited
 use Rattle.epa_polytope.specs.Stores.{Lists, State, state_of, none_yet}
 use Rattle.epa_polytope.specs.Steps.{Out, onward, Act, next, answer_of, answer, pure, stop, look, put, ◌>>=◌, ◌>>◌}
 use Rattle.epa_polytope.specs.Start.{World, format_of}
 use Rattle.epa_polytope.specs.Run.{pop_live, visit, visit_if, complete, iterate, loop, expansions}
 use Rattle.epa_polytope.specs.Demand3.{opened, one_more, run_to}
 use Rattle.epa_polytope.specs.Promises.{Does, visit_out, finish_out, entry_of}
-use Rattle.epa_polytope.proofs.Steps.{Meets}
 use Rattle.epa_polytope.proofs.Start.{empty-lent, meets-run_to}
 use Rattle.epa_polytope.proofs.Lengths.{SameLength, same-rooms, same-moves, long-itself}
 use Rattle.epa_polytope.proofs.Counted.{done-iterate}
 use Rattle.epa_polytope.proofs.Rule.{in-range}
 use Rattle.epa_polytope.specs.declared.types.MaybeFaceId.{MaybeFaceId}
-use Rattle.epa_polytope.specs.declared.types.MaybeFaceId.TheVariants as MaybeFaceId
 use Rattle.epa_polytope.specs.declared.types.Popped.{Popped}
 use Rattle.epa_polytope.specs.Code.{pop_out, maybe_entry, Early, completed_of, CanExpand, first_best, Started}
 

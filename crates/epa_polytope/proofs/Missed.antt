@@ -1,8 +1,8 @@
 -- THE LOOKUPS THAT MISS ARE FEW: three before a pass, and two for each face that it deletes; so after k expansions no more than 3k and twice the faces made, where a run ends no more than 303 and
 -- twice the faces made, and no sum of them wraps. By a bound that each step of an expansion keeps, wherever it ends. Assumes nothing.
-use mathlib.Core.Path.{◌≡◌, refl, sym, subst, ◌∙◌}
+use mathlib.Core.Path.{◌≡◌, refl, sym, ◌∙◌}
 use mathlib.Core.List.{List}
-use mathlib.Core.Bool.{Bool, true, false}
+use mathlib.Core.Bool.{Bool}
 use mathlib.Core.Option.{Option, none, some}
 use Prim.Native.Nat.{ℕ, zero, suc, ◌+◌, ◌*◌, ◌≤◌}
 use native.Mathlib.Nat.{mod-eq_of_lt}
@@ -11,12 +11,12 @@ use lib.Ieee.{Float}
 use Rattle.shape.specs.declared.vertex.Vertex.{Vertex}
 use Rattle.heap.specs.Heap.{Entry}
 use Rattle.epa_polytope.specs.Stores.{Lists, State, Three, state_of, none_yet, Made, live_to, live, vertex_at}
-use Rattle.epa_polytope.specs.Steps.{Numbers, End, Out, onward, ended, Nil, ◌>>=◌, ◌>>◌, look, put, Found, converged, stuck, heap_empty, enough_expansions, new_face_nearer, answer, push_vertex, push_face, Lost, enqueue, queue_face}
+use Rattle.epa_polytope.specs.Steps.{End, Out, onward, ended, Nil, ◌>>◌, put, Found, converged, stuck, heap_empty, enough_expansions, new_face_nearer, answer, push_vertex, push_face, Lost, enqueue, queue_face}
 use Rattle.epa_polytope.specs.Start.{World, VoronoiSimplex, push_points, second, bootstrap, first_far, start_vertices, exchange, four_faces, queue_start, queue_four, start_four, third, two_faces, start_two, start_faces, begin}
 use Rattle.epa_polytope.specs.Expansion.{Expansion, delete, queue_new, grow_at, grow, grow_all, clear_edges, close_ring, regrow}
 use Rattle.epa_polytope.specs.Run.{pop_entry, pop_live, complete, loop, run}
 use Rattle.epa_polytope.specs.Bounds.{faces_at_start}
-use Rattle.epa_polytope.specs.Demand3.{Carried, Passing, Pass, opened, one_more, run_to, rest, up_to_pass_of, up_to_pass, the_pass, after_the_pass, stores_left}
+use Rattle.epa_polytope.specs.Demand3.{Carried, Passing, opened, one_more, run_to, rest, up_to_pass_of, up_to_pass, the_pass, after_the_pass, stores_left}
 use Rattle.epa_polytope.specs.Silhouette.{lookup, misses, with_missed}
 use Rattle.epa_polytope.proofs.Walks.{misses-one}
 use Rattle.epa_polytope.proofs.Basics.{live-set, live-push}

@@ -1,12 +1,11 @@
 -- The contracts of the walks leave no choice: what meets one is one content of each list and one answer, field by field (`walked-only`, `walking-only`); and so does a contract of what is
 -- read off lists that are not lent (`reads_only`). Of the run's other steps see `does-only` of Doing.antt. Assumes nothing.
 use mathlib.Core.Path.{◌≡◌, sym, ap, ◌∙◌}
-use mathlib.Core.Bool.{Bool}
 use mathlib.Core.List.{List}
 use Prim.Native.Nat.{ℕ}
 use Rattle.epa_polytope.specs.declared.types.WalkSoFar.{WalkSoFar}
 use Rattle.epa_polytope.specs.Stores.{Lists}
-use Rattle.epa_polytope.specs.Silhouette.{WalkAnswer, Walked, walked_by}
+use Rattle.epa_polytope.specs.Silhouette.{Walked, walked_by}
 use Rattle.epa_polytope.specs.PlainWalk.{PlainSoFar, Walking, walking_by}
 use Rattle.epa_polytope.specs.Promises.{Reads}
 

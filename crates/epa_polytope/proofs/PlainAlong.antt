@@ -7,12 +7,12 @@ use native.Mathlib.Omega.{arith}
 use lib.ListN.{length, get_or, set, length-set}
 use lib.Seq.{get_or-set_other}
 use lib.Dec.{eqb, ltb}
-use borrow.Author.Tests.{ltb-true, ltb-false, lt-ltb, le-ltb}
-use Rattle.epa_polytope.specs.Silhouette.{Question, WalkAnswer, Done, NoRoom, Mesh, Walked, facing, pair_put, noted, entered}
+use borrow.Author.Tests.{ltb-true, ltb-false}
+use Rattle.epa_polytope.specs.Silhouette.{Question, NoRoom, Mesh, Walked, facing, noted}
 use Rattle.epa_polytope.specs.PlainWalk.{Walking, walking, put_if, put_in, question_at, without, answer_if, answer_question, turn, turns, plain_walk, plain_pass}
 use Rattle.epa_polytope.specs.Bounds.{NeighboursIn}
 use Rattle.epa_polytope.specs.Same.{Alike}
-use Rattle.epa_polytope.proofs.Walks.{Asked, asked-facing}
+use Rattle.epa_polytope.proofs.Walks.{Asked}
 use Rattle.epa_polytope.proofs.Along.{Together, FullTogether, Along, alike-edge, edge-length, alike-facing, along-noted, along-entered}
 use Rattle.epa_polytope.proofs.Along as A
 use Rattle.epa_polytope.proofs.PlainWalks.{potential, enough_turns, turn-short, turn-full, turn-none, turn-takes}

@@ -12,10 +12,10 @@ use lib.Seq.{get_or-set_same, get_or-set_other}
 use lib.Dec.{eqb, ltb}
 use borrow.Author.Tests.{eqb-true, ltb-true, ltb-false}
 use Rattle.epa_polytope.specs.Stores.{live_to}
-use Rattle.epa_polytope.specs.Silhouette.{Question, WalkAnswer, Done, NoRoom, Mesh, Walked, zeros, facing, with_missed, pair_put, noted, entered, recorded_of}
+use Rattle.epa_polytope.specs.Silhouette.{Question, WalkAnswer, Done, NoRoom, Mesh, Walked, with_missed, pair_put, noted, entered, recorded_of}
 use Rattle.epa_polytope.specs.PlainWalk.{Walking, walking, put_if, put_in, question_at, without, answer_if, answer_question, turn, turns, plain_walk, plain_pass}
 use Rattle.epa_polytope.specs.Bounds.{NeighboursIn}
-use Rattle.epa_polytope.specs.Rule.{Zeroed, Returned}
+use Rattle.epa_polytope.specs.Rule.{Returned}
 use Rattle.epa_polytope.proofs.Basics.{no_edges, live-delete}
 use Rattle.epa_polytope.proofs.Places.{stays, after, one_set, reads-set, used, given_back}
 use Rattle.epa_polytope.proofs.Walks.{Asked, asked-facing, asked_of, edge_room, Recorded, Reached, reached-after, reached-noted, noted-deletes-none, asked-noted, edges-noted, misses-noted, one_more}

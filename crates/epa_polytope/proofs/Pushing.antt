@@ -21,7 +21,6 @@ use Rattle.epa_polytope.specs.declared.types.End.TheVariants.{Nothing, NoRoom}
 use Rattle.epa_polytope.specs.declared.types.FaceId.{FaceId}
 use Rattle.epa_polytope.specs.declared.types.Lost.{Lost}
 use Rattle.epa_polytope.specs.declared.types.MaybeFaceId.{MaybeFaceId}
-use Rattle.epa_polytope.specs.declared.types.MaybeFaceId.TheVariants as MaybeFaceId
 use Rattle.epa_polytope.specs.declared.types.Step.{Step}
 use Rattle.epa_polytope.specs.declared.types.Step.TheVariants.{Onward, Ended}
 use Rattle.epa_polytope.specs.declared.types.Tally.{Tally}

@@ -12,7 +12,7 @@ use Rattle.heap.specs.Heap.{Entry}
 use Rattle.epa_polytope.specs.Start.{World, VoronoiSimplex, push_points, first_far, second, bootstrap, queue_start, start_four, four_faces, queue_four, third, two_faces, start_two, start_vertices, start_faces, begin, exchange}
 use Rattle.epa_polytope.specs.Stores.{State, the_vertices, the_faces, the_heap, live_to, live, vertex_at, Made, Lists, state_of, heap_of, none_yet}
 use Rattle.epa_polytope.specs.Steps.{End, key_at_start, Out, onward, ended, Over, three, enqueue, push_vertex, Numbers, queue_face, push_face}
-use Rattle.epa_polytope.specs.Run.{expansions, epa, run}
+use Rattle.epa_polytope.specs.Run.{epa, run}
 use Rattle.epa_polytope.specs.Bounds.{Good, Within, Tight, without, with_all, Part, the_start, the_loop, Ended, Ends, faces_at_start, NeighboursIn, CornersIn}
 use Rattle.epa_polytope.specs.Stores.{room_for}
 use Rattle.epa_polytope.specs.Demand3.{Carried, opened, run_to, rest, one_more}
@@ -23,7 +23,6 @@ use Rattle.epa_polytope.proofs.Heaps.{good-pushed}
 use Rattle.epa_polytope.proofs.Growth.{Ready, Ending}
 use Rattle.epa_polytope.proofs.Moves.{Keeps, with_vertex, with_exchange, with_entry, with_face}
 use Rattle.epa_polytope.proofs.Iterations.{Best-ready, meets-iterate, meets-loop}
-use Rattle.heap.specs.Heap as Heap
 use Rattle.simplex.specs.Simplex.{is_simplex}
 use Rattle.epa_polytope.proofs.Ways.{peek-finds}
 use Rattle.epa_polytope.proofs.Steps.{Meets, meets-ends, meets-bind, meets-then, meets-look, meets-put, meets-pure, meets-ok, meets-stop, meets-stop_if, meets-do_if, meets-branch, meets-face, meets-enqueue, meets-queue, meets-vertex, meets-map, meets-both}

@@ -29,7 +29,6 @@ use Rattle.epa_polytope.specs.Steps.{Out, Nil, next, stop, look, ok, ◌>>=◌, 
 use Rattle.epa_polytope.specs.Start.{World, first_far, second, bootstrap, push_points, scale_of}
 use Rattle.epa_polytope.specs.Promises.{Does, step_out}
 use Rattle.epa_polytope.specs.declared.types.MaybeVertex.{MaybeVertex}
-use Rattle.epa_polytope.specs.declared.types.MaybeVertex.TheVariants as MaybeVertex
 use Rattle.epa_polytope.specs.Code.{maybe_of, second_of}
 
 -- ---- what has to be a simplex

@@ -14,7 +14,6 @@ use Rattle.epa_polytope.specs.declared.types.End.{End}
 use Rattle.epa_polytope.specs.declared.types.Step.{Step}
 use Rattle.epa_polytope.specs.declared.types.Step.TheVariants.{Onward, Ended}
 use Rattle.epa_polytope.specs.declared.types.Visited.{Visited}
-use Rattle.epa_polytope.specs.declared.types.Visited.TheVariants as Visited
 use Rattle.epa_polytope.specs.Stores.{Lists, normal_of}
 use Rattle.epa_polytope.specs.Steps.{answer_of, answer, stop, pure, push_vertex, do_if, look, ◌>>=◌, ◌>>◌}
 use Rattle.epa_polytope.specs.Start.{World, format_of}

@@ -9,7 +9,6 @@ use Rattle.simplex.specs.Simplex.{is_simplex}
 use Rattle.simplex.specs.declared.voronoi_simplex.VoronoiSimplex.{VoronoiSimplex}
 use Rattle.vector.specs.Vector.{zero_f}
 use Rattle.vector.specs.declared.vec3.Vec3.{Vec3}
-use Rattle.epa_polytope.specs.declared.types.Begun.TheVariants as Begun
 use Rattle.epa_polytope.specs.declared.types.Begun.{Begun}
 use Rattle.epa_polytope.specs.declared.types.Best.{Best}
 use Rattle.epa_polytope.specs.declared.types.End.TheVariants as End
@@ -18,9 +17,7 @@ use Rattle.epa_polytope.specs.declared.types.PlainSoFar.{PlainSoFar}
 use Rattle.epa_polytope.specs.declared.types.WalkAnswer.{WalkAnswer}
 use Rattle.epa_polytope.specs.declared.types.WalkAnswer.TheVariants.{Done, NoRoom}
 use Rattle.epa_polytope.specs.declared.types.Made.{Made}
-use Rattle.epa_polytope.specs.declared.types.MaybeFaceId.TheVariants as MaybeFaceId
 use Rattle.epa_polytope.specs.declared.types.MaybeFaceId.{MaybeFaceId}
-use Rattle.epa_polytope.specs.declared.types.MaybeVertex.TheVariants as MaybeVertex
 use Rattle.epa_polytope.specs.declared.types.MaybeVertex.{MaybeVertex}
 use Rattle.epa_polytope.specs.declared.types.Popped.{Popped}
 use Rattle.epa_polytope.specs.declared.types.Site.TheVariants.{NotASimplex}
@@ -28,7 +25,6 @@ use Rattle.epa_polytope.specs.declared.types.Step.TheVariants.{Onward, Ended}
 use Rattle.epa_polytope.specs.declared.types.Step.{Step}
 use Rattle.epa_polytope.specs.declared.types.Tally.{Tally}
 use Rattle.epa_polytope.specs.declared.types.Three.{Three}
-use Rattle.epa_polytope.specs.declared.types.Visited.TheVariants as Visited
 use Rattle.epa_polytope.specs.declared.types.Visited.{Visited}
 use Rattle.epa_polytope.specs.Promises.{entry_of}
 use Rattle.epa_polytope.specs.Silhouette.{recorded_of}

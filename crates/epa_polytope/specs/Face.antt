@@ -7,7 +7,6 @@ use Rattle.vector.specs.Vector.{zero_v, vec3, sub_v, cross_v, normalize_or_zero_
 use Rattle.projection.specs.declared.triangle.TrianglePointLocation.{TrianglePointLocation}
 use Rattle.projection.specs.declared.triangle.TrianglePointLocation.TheVariants.{OnVertex, OnEdge, OnFace, OnSolid}
 use Rattle.projection.specs.declared.triangle.BarycentricCoordinates.{BarycentricCoordinates}
-use Rattle.projection.specs.declared.triangle.BarycentricCoordinates.TheVariants as BarycentricCoordinates
 use Rattle.projection.specs.Triangle.{project_triangle, barycentric_coordinates}
 use Rattle.projection.specs.Inside.{within_origin}
 use Rattle.epa_polytope.specs.declared.types.Made.{Made}

@@ -10,9 +10,7 @@ use Rattle.std.specs.Float.{binary32}
 use Rattle.epa_polytope.specs.declared.types.Step.{Step}
 use Rattle.epa_polytope.specs.declared.types.Step.TheVariants.{Onward, Ended}
 use Rattle.epa_polytope.specs.declared.types.Begun.{Begun}
-use Rattle.epa_polytope.specs.declared.types.Begun.TheVariants as Begun
 use Rattle.epa_polytope.specs.declared.types.Visited.{Visited}
-use Rattle.epa_polytope.specs.declared.types.Visited.TheVariants as Visited
 use Rattle.epa_polytope.specs.declared.types.Finish.{Finish}
 use Rattle.epa_polytope.specs.declared.types.FaceId.{FaceId}
 use Rattle.epa_polytope.specs.Stores.{Lists, Tally, state_of, with_pending, lend}

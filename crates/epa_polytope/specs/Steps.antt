@@ -13,7 +13,6 @@ use Rattle.epa_polytope.specs.Stores.{Lists, State, state_of, with_vertices, wit
 use Rattle.epa_polytope.specs.Stores.{Made, Three, the_vertices, the_faces, the_heap}
 use Rattle.epa_polytope.specs.Stores.{room_for, vertex_at, put_vertex, put_made, put_face, normal_of, weights_of, corner_in, point_at, heap_of}
 use Rattle.epa_polytope.specs.declared.types.MaybeFaceId.{MaybeFaceId}
-use Rattle.epa_polytope.specs.declared.types.MaybeFaceId.TheVariants as MaybeFaceId
 pub use Rattle.epa_polytope.specs.declared.types.Found.{Found}
 pub use Rattle.epa_polytope.specs.declared.types.Found.TheVariants.{SinglePoint as single_point, Converged as converged, Stuck as stuck, NewFaceNearer as new_face_nearer}
 pub use Rattle.epa_polytope.specs.declared.types.Found.TheVariants.{EnoughExpansions as enough_expansions, HeapEmpty as heap_empty}

@@ -1,6 +1,5 @@
 -- What `facing_at` returns, its calls folded back in the order of the code. Assumes nothing.
 use Rattle.epa_polytope.specs.Silhouette.{facing, with_missed}
-use Rattle.epa_polytope.proofs.Doing.{place}
 use Rattle.epa_faces.proofs.facing_at.Goals as goal
 
 pub returns : goal.returns

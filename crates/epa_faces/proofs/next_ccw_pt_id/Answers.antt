@@ -1,7 +1,6 @@
 -- What `next_ccw_pt_id` returns: the first test that holds answers. Assumes nothing.
 use Rattle.std.proofs.Common.{eq-eqb, ne_eqb}
 use Rattle.epa_polytope.specs.Silhouette.{next_ccw_pt_id}
-use Rattle.epa_polytope.proofs.Doing.{place}
 use Rattle.epa_faces.proofs.next_ccw_pt_id.Goals as goal
 
 pub returns-then-corner_at-id : goal.returns-then-corner_at-id

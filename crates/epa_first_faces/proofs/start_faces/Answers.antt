@@ -1,7 +1,7 @@
 -- `start_faces` does what `start_faces` does: one of the two starts, by the dimension. Assumes nothing.
 use borrow.Author.Tests.{eq-eqb, ne_eqb}
 use Rattle.epa_polytope.specs.Start.{start_faces}
-use Rattle.epa_polytope.proofs.Doing.{first_way, second_way, place}
+use Rattle.epa_polytope.proofs.Doing.{first_way, second_way}
 use Rattle.epa_first_faces.proofs.start_faces.Goals as goal
 
 pub returns-then-dim-eq3 : goal.returns-then-dim-eq3

@@ -85,7 +85,7 @@ pub loop-i-preserved : goal.loop-i-preserved
 loop-i-preserved c =
     let at = (goal.at.loop-i-preserved c).After-grow-grown in
     elim c.match-grown.branch [
-        in-Nothing w ↦ goes-without (turned at) w.in-Nothing.is w.faces-is w.heap-is
+      | in-Nothing w ↦ goes-without (turned at) w.in-Nothing.is w.faces-is w.heap-is
       | in-Plain w ↦ goes-plain (turned at) w.in-Plain.is w.faces-is w.heap-is
       | in-Queued w ↦ goes-queued (turned at) w.in-Queued.is w.faces-is w.heap-is
     ]

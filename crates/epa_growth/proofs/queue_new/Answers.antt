@@ -1,8 +1,7 @@
 -- `queue_new` does what `queue_new` does: the new face is nearer than the one that is expanded, or queued. Assumes nothing.
-use Rattle.std.proofs.Common.{refl, rules}
+use Rattle.std.proofs.Common.{refl}
 use Rattle.epa_polytope.specs.Promises.{single}
 use Rattle.epa_polytope.specs.declared.types.Lost.TheVariants.{KeyLater}
-use Rattle.epa_polytope.proofs.Doing.{place}
 use Rattle.epa_polytope.proofs.Growing.{new-nearer, new-queued}
 use Rattle.epa_polytope.proofs.Pushing.{key-refused, key-accepted, heap-refused}
 use Rattle.epa_growth.specs.declared.Grown.TheVariants.{Queued, NoRoomForEntry, KeyRefused, Nearer}

@@ -1,7 +1,5 @@
 -- What `clear_at` leaves. Assumes nothing.
-use borrow.Author.Rules.{rules}
 use native.Mathlib.Nat.{add-zero}
-use Rattle.epa_polytope.proofs.Doing.{place}
 use Rattle.epa_plain_walk.proofs.clear_at.Goals as goal
 
 pub returns : goal.returns

@@ -1,7 +1,6 @@
 -- A pass by either walk. Assumes nothing.
 use mathlib.Core.Path.{ap}
 use Rattle.epa_polytope.specs.Promises.{walk_of}
-use Rattle.epa_polytope.proofs.Doing.{place}
 use Rattle.epa_polytope.proofs.PlainLoop.{recursively, plainly}
 use Rattle.epa_plain_walk.proofs.pass_by.Goals as goal
 

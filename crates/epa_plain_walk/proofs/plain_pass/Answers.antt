@@ -1,6 +1,4 @@
 -- A pass puts in its three questions, the last first, and walks. Assumes nothing.
-use mathlib.Core.Path.{◌∙◌}
-use Rattle.epa_polytope.proofs.Doing.{place}
 use Rattle.epa_polytope.proofs.PlainLoop.{pass-made}
 use Rattle.epa_plain_walk.proofs.plain_pass.Goals as goal
 

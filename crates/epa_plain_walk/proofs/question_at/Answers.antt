@@ -1,6 +1,5 @@
 -- What `question_at` returns: the two numbers of the pair. Assumes nothing.
 use native.Mathlib.Nat.{add-zero}
-use Rattle.epa_polytope.proofs.Doing.{place}
 use Rattle.epa_plain_walk.proofs.question_at.Goals as goal
 
 pub returns : goal.returns

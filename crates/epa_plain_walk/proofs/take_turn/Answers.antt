@@ -1,7 +1,4 @@
 -- A turn: the last question comes out, and is answered. Assumes nothing.
-use mathlib.Core.Path.{◌∙◌}
-use borrow.Author.Rules.{rules}
-use Rattle.epa_polytope.proofs.Doing.{place}
 use Rattle.epa_polytope.proofs.PlainLoop.{turn-made}
 use Rattle.epa_plain_walk.proofs.take_turn.Goals as goal
 

@@ -1,6 +1,4 @@
 -- `enqueue` does what the step `enqueue` does: the heap's room, and the entry. Assumes nothing.
-use borrow.Author.Rules.{rules}
-use Rattle.epa_polytope.proofs.Doing.{place}
 use Rattle.epa_polytope.proofs.Pushing.{heap-refused, queued}
 use Rattle.epa_pushes.proofs.enqueue.Goals as goal
 

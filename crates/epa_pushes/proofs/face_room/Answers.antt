@@ -1,5 +1,4 @@
 -- What `face_room` returns. Assumes nothing.
-use Rattle.epa_polytope.proofs.Doing.{place}
 use Rattle.epa_pushes.proofs.face_room.Goals as goal
 
 pub returns : goal.returns

@@ -1,6 +1,4 @@
 -- `push_vertex` does what `push_vertex` does: it is refused, or the vertex is written. Assumes nothing.
-use borrow.Author.Rules.{rules}
-use Rattle.epa_polytope.proofs.Doing.{place}
 use Rattle.epa_polytope.proofs.Pushing.{vertex-refused, vertex-written}
 use Rattle.epa_pushes.proofs.push_vertex.Goals as goal
 

@@ -2,8 +2,7 @@
 use mathlib.Core.Path.{refl, ap}
 use native.Mathlib.Omega.{arith}
 use Prim.Native.Nat.{ℕ, ◌*◌}
-use lib.ListN.{length-set, set}
-use borrow.Author.Rules.{rules}
+use lib.ListN.{set}
 use Rattle.epa_polytope.proofs.Pushing.{six-written}
 use Rattle.epa_pushes.proofs.put_face.Goals as goal
 

@@ -1,7 +1,6 @@
 -- `write_face` does what `push_face` does, but for the tally: it is refused, or the face is written. Assumes nothing.
-use mathlib.Core.Path.{refl}
 use native.Mathlib.Omega.{arith}
-use Rattle.epa_polytope.proofs.Doing.{nothing-else, place}
+use Rattle.epa_polytope.proofs.Doing.{nothing-else}
 use Rattle.epa_polytope.proofs.Pushing.{face-refused, face-written}
 use Rattle.epa_pushes.proofs.write_face.Goals as goal
 

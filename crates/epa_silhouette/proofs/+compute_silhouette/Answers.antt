@@ -20,9 +20,11 @@ compute_silhouette-r-requires t c =
 pub compute_silhouette-requires : goal.compute_silhouette-requires
 compute_silhouette-requires t c =
     let fewer : zeros c.set_deleted.new.deleted < t
-    = fall-first c.args.deleted.now c.set_deleted.new.deleted c.args.q.face t c.decreases (sym c.deleted_at.ensures ∙ c.if-deleted_at-ne0.false) c.set_deleted.ensures in
-    (fall-second _ c.set_deleted.new.deleted t _ _ _ _ (walked_by c.compute_silhouette-r.new.deleted c.compute_silhouette-r.new.edges c.compute_silhouette-r.result)
-    fewer (c.compute_silhouette-r.ensures nothing-else), tt)
+    = fall-first c.args.deleted.now c.set_deleted.new.deleted c.args.q.face t c.decreases (sym c.deleted_at.ensures ∙ c.if-deleted_at-ne0.false) c.set_deleted.ensures in (
+      fall-second _ c.set_deleted.new.deleted t _ _ _ _ (walked_by c.compute_silhouette-r.new.deleted c.compute_silhouette-r.new.edges c.compute_silhouette-r.result)
+          fewer (c.compute_silhouette-r.ensures nothing-else),
+      tt,
+    )
 
 pub returns-then-can_be_seen_by : goal.returns-then-can_be_seen_by
 returns-then-can_be_seen_by t c k =

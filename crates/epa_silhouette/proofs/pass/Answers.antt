@@ -1,6 +1,4 @@
 -- A pass is three walks, one after another. Assumes nothing.
-use mathlib.Core.Path.{◌∙◌}
-use Rattle.epa_polytope.proofs.Doing.{place}
 use Rattle.epa_polytope.proofs.Walks.{pass_of}
 use Rattle.epa_silhouette.proofs.pass.Goals as goal
 

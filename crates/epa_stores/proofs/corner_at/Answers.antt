@@ -1,6 +1,5 @@
 -- What `corner_at` returns: past the end, 0. Assumes nothing.
 use native.Mathlib.Omega.{arith}
-use borrow.Author.Rules.{rules}
 use Prim.Native.Nat.{◌+◌, ◌*◌}
 use Rattle.epa_polytope.proofs.Lists.{past}
 use Rattle.epa_stores.proofs.corner_at.Goals as goal

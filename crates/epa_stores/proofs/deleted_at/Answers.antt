@@ -1,6 +1,5 @@
 -- What `deleted_at` returns: past the end, 1. Assumes nothing.
 use native.Mathlib.Omega.{arith}
-use borrow.Author.Rules.{rules}
 use Rattle.epa_polytope.proofs.Lists.{past, get_d_any}
 use Rattle.epa_stores.proofs.deleted_at.Goals as goal
 

@@ -1,7 +1,7 @@
 -- What `live_to` returns: as many as are live among those passed. Assumes nothing.
 use native.Mathlib.Omega.{arith}
-use mathlib.Core.Path.{◌≡◌, refl, sym, ap, ◌∙◌}
-use Prim.Native.Nat.{ℕ, ◌≤◌, ◌-◌}
+use mathlib.Core.Path.{refl, sym, ap, ◌∙◌}
+use Prim.Native.Nat.{ℕ}
 use Rattle.epa_polytope.specs.Stores.{live_to}
 use Rattle.epa_polytope.proofs.Lists.{live-most, live_more, live_same}
 use Rattle.epa_stores.proofs.live_to.Goals as goal
@@ -17,7 +17,7 @@ overflow_add-live c = omega (arith, live-most c.loop-i.i c.args.deleted.now)
 pub loop-i-preserved : goal.loop-i-preserved
 loop-i-preserved c =
     elim c.if-deleted_at-eq0.branch [
-        then-deleted_at-eq0 w ↦ (omega arith, live_more _ _ _ (sym c.deleted_at.ensures ∙ w.if-deleted_at-eq0.true) c.loop-i.invariant.1 w.live-is)
+      | then-deleted_at-eq0 w ↦ (omega arith, live_more _ _ _ (sym c.deleted_at.ensures ∙ w.if-deleted_at-eq0.true) c.loop-i.invariant.1 w.live-is)
       | else-deleted_at-eq0 w ↦ (omega arith, live_same _ _ _ (λ z. w.if-deleted_at-eq0.false (c.deleted_at.ensures ∙ z)) c.loop-i.invariant.1 w.live-is)
     ]
 

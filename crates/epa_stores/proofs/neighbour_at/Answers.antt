@@ -1,8 +1,6 @@
 -- What `neighbour_at` returns: past the end, 0. Assumes nothing.
 use native.Mathlib.Omega.{arith}
-use borrow.Author.Rules.{rules}
 use Prim.Native.Nat.{◌+◌, ◌*◌}
-use Rattle.epa_polytope.proofs.Doing.{place}
 use Rattle.epa_polytope.proofs.Lists.{past}
 use Rattle.epa_stores.proofs.neighbour_at.Goals as goal
 

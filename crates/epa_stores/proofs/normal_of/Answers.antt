@@ -1,5 +1,4 @@
 -- What `normal_of` returns. Assumes nothing.
-use borrow.Author.Rules.{rules}
 use borrow.Author.Tests.{le-ltb, lt-ltb}
 use Rattle.epa_polytope.specs.Stores.{normal_of}
 use Rattle.epa_stores.proofs.normal_of.Goals as goal

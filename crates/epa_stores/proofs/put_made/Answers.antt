@@ -1,5 +1,4 @@
 -- What `put_made` leaves: the normal, and the weights after it. Assumes nothing.
-use borrow.Author.Rules.{rules}
 use borrow.Author.Tests.{le-ltb, lt-ltb}
 use Rattle.epa_polytope.specs.Stores.{put_made}
 use Rattle.epa_polytope.proofs.Lists.{sets-two}

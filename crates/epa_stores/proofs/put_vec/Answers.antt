@@ -1,6 +1,5 @@
 -- What `put_vec` leaves. Assumes nothing.
 use native.Mathlib.Omega.{arith}
-use borrow.Author.Rules.{rules}
 use lib.ListN.{length-set}
 use Rattle.epa_polytope.proofs.Lists.{three-sets}
 use Rattle.epa_stores.proofs.put_vec.Goals as goal

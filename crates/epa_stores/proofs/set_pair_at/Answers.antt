@@ -1,7 +1,6 @@
 -- What `set_pair_at` leaves: past the end, all as it was. Assumes nothing.
 use native.Mathlib.Omega.{arith}
 use mathlib.Core.Path.{sym}
-use borrow.Author.Rules.{rules}
 use lib.Seq.{set_out}
 use Rattle.epa_stores.proofs.set_pair_at.Goals as goal
 

@@ -1,5 +1,4 @@
 -- What `vertex_at` returns. Assumes nothing.
-use borrow.Author.Rules.{rules}
 use borrow.Author.Tests.{le-ltb, lt-ltb}
 use Rattle.epa_polytope.specs.Stores.{vertex_at}
 use Rattle.epa_stores.proofs.vertex_at.Goals as goal

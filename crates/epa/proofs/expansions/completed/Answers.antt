@@ -1,12 +1,10 @@
 -- What `completed` returns. Assumes nothing.
 use native.Mathlib.Omega.{arith}
-use borrow.Author.Rules.{rules}
 use mathlib.Core.Path.{◌≡◌, subst}
 use Prim.Native.Nat.{◌≤◌}
 use Rattle.epa_polytope.specs.declared.types.Best.{Best}
 use Rattle.epa_polytope.specs.declared.types.Tally.{Tally}
 use Rattle.epa_polytope.specs.declared.types.Visited.{Visited}
-use Rattle.epa_polytope.specs.declared.types.Visited.TheVariants as Visited
 use Rattle.epa_polytope.specs.Code.{Early}
 use Rattle.epa.proofs.expansions.completed.Goals as goal
 

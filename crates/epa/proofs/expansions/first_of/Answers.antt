@@ -1,6 +1,5 @@
 -- What `first_of` returns: past the end, 0. Assumes nothing.
 use native.Mathlib.Omega.{arith}
-use borrow.Author.Rules.{rules}
 use Rattle.epa_polytope.proofs.Lists.{past, get_d_any}
 use Rattle.epa.proofs.expansions.first_of.Goals as goal
 

@@ -1,7 +1,4 @@
 -- How the run goes on after a pass. Assumes nothing.
-use mathlib.Core.Path.{◌∙◌}
-use borrow.Author.Rules.{rules}
-use Rattle.epa_polytope.proofs.Doing.{place}
 use Rattle.epa_polytope.proofs.Expanding.{finished-short, finished_on, finished-full}
 use Rattle.epa_expansion.proofs.expansion.finished.Goals as goal
 

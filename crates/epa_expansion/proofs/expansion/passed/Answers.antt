@@ -1,5 +1,4 @@
 -- What `passed` returns: the greater of two numbers is the one that the test finds. Assumes nothing.
-use Rattle.epa_polytope.proofs.Doing.{place}
 use Rattle.epa_polytope.proofs.Expanding.{passed-more, passed-same}
 use Rattle.epa_expansion.proofs.expansion.passed.Goals as goal
 

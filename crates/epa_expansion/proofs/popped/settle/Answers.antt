@@ -1,10 +1,9 @@
 -- `settle` does what the run's `settle` does, for any support function: the bound is within the tolerance, the run is stuck, or the polytope grows. Assumes nothing.
-use borrow.Author.Rules.{rules}
 use mathlib.Core.Path.{refl, sym, ◌∙◌}
 use Rattle.epa_polytope.specs.Promises.{single}
 use Rattle.epa_polytope.specs.Steps.{answer_of}
 use Rattle.epa_polytope.specs.declared.types.Found.TheVariants.{Converged, Stuck}
-use Rattle.epa_polytope.proofs.Doing.{read_here, place}
+use Rattle.epa_polytope.proofs.Doing.{read_here}
 use Rattle.epa_polytope.proofs.Visiting.{converges, gets-stuck, settle-ended, settled}
 use Rattle.epa_expansion.proofs.popped.settle.Goals as goal
 

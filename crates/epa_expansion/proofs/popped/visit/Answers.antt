@@ -1,7 +1,6 @@
 -- `visit` does what the run's `visit` does: the vertex is refused, or pushed, and the rest is `settle`'s. Assumes nothing.
-use borrow.Author.Rules.{rules}
 use mathlib.Core.Path.{refl}
-use Rattle.epa_polytope.proofs.Doing.{here, place}
+use Rattle.epa_polytope.proofs.Doing.{here}
 use Rattle.epa_polytope.proofs.Visiting.{visit-ended, visited}
 use Rattle.epa_expansion.proofs.popped.visit.Goals as goal
 

@@ -1,6 +1,6 @@
 -- `close_ring` does what `close_ring` does: no face was made, or two links close the ring. Assumes nothing.
-use mathlib.Core.Path.{refl, ◌∙◌}
-use Rattle.epa_polytope.proofs.Doing.{here, place}
+use mathlib.Core.Path.{refl}
+use Rattle.epa_polytope.proofs.Doing.{here}
 use Rattle.epa_polytope.proofs.Expanding.{none_made, ring-closed}
 use Rattle.epa_expansion.proofs.ring.close_ring.Goals as goal
 

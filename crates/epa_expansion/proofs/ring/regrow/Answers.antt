@@ -1,8 +1,7 @@
 -- `regrow` does what the run's `regrow` does: there is no edge, or the new faces are made, and their ring is closed. Assumes nothing.
-use borrow.Author.Rules.{rules}
-use mathlib.Core.Path.{refl, ◌∙◌}
+use mathlib.Core.Path.{refl}
 use Rattle.epa_polytope.specs.Promises.{single}
-use Rattle.epa_polytope.proofs.Doing.{here, place}
+use Rattle.epa_polytope.proofs.Doing.{here}
 use Rattle.epa_polytope.proofs.Expanding.{no_edges, regrow-ended, regrown}
 use Rattle.epa_expansion.proofs.ring.regrow.Goals as goal
 

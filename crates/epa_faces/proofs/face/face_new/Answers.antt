@@ -1,7 +1,6 @@
 -- What `face_new` returns, its calls folded back in the order of the code. Assumes nothing.
 use Rattle.epa_polytope.specs.Face.{face_new, face_normal}
 use Rattle.epa_faces.specs.Weighed.{weighed}
-use Rattle.epa_polytope.proofs.Doing.{place}
 use Rattle.epa_faces.proofs.face.face_new.Goals as goal
 
 pub weigh-weighed-requires : goal.weigh-weighed-requires

@@ -1,6 +1,4 @@
 -- What `exchange` leaves: two vertices read, and each written in the other's place. Assumes nothing.
-use mathlib.Core.Path.{◌∙◌}
-use Rattle.epa_polytope.proofs.Doing.{place}
 use Rattle.epa_polytope.proofs.StartingFour.{exchange-written}
 use Rattle.epa_first_faces.proofs.four.exchange.Goals as goal
 

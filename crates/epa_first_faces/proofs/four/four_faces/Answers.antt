@@ -1,8 +1,5 @@
 -- `four_faces` does what `four_faces` does: two pairs of pushes, of which the first ends the run, or the second does the rest. Assumes nothing.
-use borrow.Author.Rules.{rules}
-use mathlib.Core.Path.{◌∙◌}
 use Rattle.epa_polytope.specs.Start.{four_faces}
-use Rattle.epa_polytope.proofs.Doing.{place}
 use Rattle.epa_polytope.proofs.Pairing.{pair-goes-on, pair_ends}
 use Rattle.epa_first_faces.proofs.four.four_faces.Goals as goal
 

@@ -1,7 +1,7 @@
 -- `queue_start` does what `queue_start` does: a face that holds the projection is queued, another left. Assumes nothing.
 use mathlib.Core.Path.{refl}
 use Rattle.epa_polytope.specs.Promises.{single}
-use Rattle.epa_polytope.proofs.Doing.{here, place}
+use Rattle.epa_polytope.proofs.Doing.{here}
 use Rattle.epa_polytope.proofs.StartingFour.{start-held, start_left}
 use Rattle.epa_first_faces.proofs.four.queue_start.Goals as goal
 

@@ -1,7 +1,5 @@
 -- `queue_two` does two `queue_start`: the first ends the run, or the second does the rest. Assumes nothing.
-use borrow.Author.Rules.{rules}
-use mathlib.Core.Path.{◌∙◌}
-use Rattle.epa_polytope.proofs.Doing.{goes_on, place}
+use Rattle.epa_polytope.proofs.Doing.{goes_on}
 use Rattle.epa_polytope.proofs.Pairing.{ends_so}
 use Rattle.epa_first_faces.proofs.four.queue_two.Goals as goal
 

@@ -1,6 +1,5 @@
 -- `wind_outward` exchanges where the vertices wind inward, and else leaves them. Assumes nothing.
-use mathlib.Core.Path.{sym, refl, ◌∙◌}
-use Rattle.epa_polytope.proofs.Doing.{place}
+use mathlib.Core.Path.{sym, ◌∙◌}
 use Rattle.epa_first_faces.proofs.four.wind_outward.Goals as goal
 
 pub returns-then-winds_inward : goal.returns-then-winds_inward

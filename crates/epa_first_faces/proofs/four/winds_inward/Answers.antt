@@ -1,7 +1,6 @@
 -- What `winds_inward` returns, its calls folded back in the order of the code. Assumes nothing.
 use lib.Ieee.{of_bits}
 use Rattle.epa_polytope.specs.Start.{winds_inward}
-use Rattle.epa_polytope.proofs.Doing.{place}
 use Rattle.epa_first_faces.proofs.four.winds_inward.Goals as goal
 
 pub returns : goal.returns

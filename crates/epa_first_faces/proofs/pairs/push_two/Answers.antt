@@ -1,7 +1,5 @@
 -- `push_two` does two `push_face`: the first ends the run, or the second does the rest. Assumes nothing.
-use borrow.Author.Rules.{rules}
-use mathlib.Core.Path.{◌∙◌}
-use Rattle.epa_polytope.proofs.Doing.{goes_on, place}
+use Rattle.epa_polytope.proofs.Doing.{goes_on}
 use Rattle.epa_polytope.proofs.Pairing.{ends_so}
 use Rattle.epa_first_faces.proofs.pairs.push_two.Goals as goal
 

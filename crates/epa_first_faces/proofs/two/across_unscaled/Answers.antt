@@ -1,7 +1,6 @@
 -- What `across_unscaled` returns, its calls folded back in the order of the code. Assumes nothing.
 use lib.Ieee.{of_bits}
 use Rattle.epa_polytope.specs.Start.{across}
-use Rattle.epa_polytope.proofs.Doing.{place}
 use Rattle.epa_first_faces.proofs.two.across_unscaled.Goals as goal
 
 pub returns-then-abs : goal.returns-then-abs

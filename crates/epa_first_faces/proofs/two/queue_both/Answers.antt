@@ -1,8 +1,6 @@
 -- `queue_both` does two `enqueue`: the first ends the run, or the second does the rest. Assumes nothing.
-use borrow.Author.Rules.{rules}
-use mathlib.Core.Path.{◌∙◌}
 use lib.Ieee.{of_bits}
-use Rattle.epa_polytope.proofs.Doing.{goes_on, place}
+use Rattle.epa_polytope.proofs.Doing.{goes_on}
 use Rattle.epa_polytope.proofs.Pairing.{ends_so}
 use Rattle.epa_first_faces.proofs.two.queue_both.Goals as goal
 

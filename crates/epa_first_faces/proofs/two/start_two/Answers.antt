@@ -1,7 +1,6 @@
 -- `start_two` does what `start_two` does: a third vertex ends the run, or the two faces do the rest. Assumes nothing.
-use borrow.Author.Rules.{rules}
 use mathlib.Core.Path.{refl}
-use Rattle.epa_polytope.proofs.Doing.{here, place}
+use Rattle.epa_polytope.proofs.Doing.{here}
 use Rattle.epa_polytope.proofs.StartingTwo.{no_third, two_started}
 use Rattle.epa_first_faces.proofs.two.start_two.Goals as goal
 

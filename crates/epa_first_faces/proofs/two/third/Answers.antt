@@ -1,8 +1,6 @@
 -- `third` does what the run's `third` does: the two vertices span no direction, or a vertex across it is pushed. Assumes nothing.
-use borrow.Author.Rules.{rules}
 use lib.Ieee.{of_bits}
 use Rattle.vector.specs.Vector.{zero_v}
-use Rattle.epa_polytope.proofs.Doing.{place}
 use Rattle.epa_polytope.proofs.StartingTwo.{spans-none, third-pushed}
 use Rattle.epa_first_faces.proofs.two.third.Goals as goal
 

@@ -1,8 +1,7 @@
 -- `two_faces` does what `two_faces` does: two pushes, which end the run, or two entries of the heap do the rest. Assumes nothing.
-use borrow.Author.Rules.{rules}
 use mathlib.Core.Path.{refl}
 use Rattle.epa_polytope.specs.Promises.{single}
-use Rattle.epa_polytope.proofs.Doing.{here, place}
+use Rattle.epa_polytope.proofs.Doing.{here}
 use Rattle.epa_polytope.proofs.StartingTwo.{two-not-made, two_made}
 use Rattle.epa_first_faces.proofs.two.two_faces.Goals as goal
 

@@ -1,6 +1,6 @@
 -- `with_third` does `third` where there are two vertices, and else nothing. Assumes nothing.
 use borrow.Author.Tests.{eq-eqb, ne_eqb}
-use Rattle.epa_polytope.proofs.Doing.{done-if, not_done, place}
+use Rattle.epa_polytope.proofs.Doing.{done-if, not_done}
 use Rattle.epa_first_faces.proofs.two.with_third.Goals as goal
 
 pub returns-then-tally-eq2 : goal.returns-then-tally-eq2

@@ -1,7 +1,6 @@
 -- `begin` does what the run's `begin` does: the run ends at the vertices, or has its first faces too. Assumes nothing.
-use borrow.Author.Rules.{rules}
-use mathlib.Core.Path.{refl, ◌∙◌}
-use Rattle.epa_polytope.proofs.Doing.{here, place}
+use mathlib.Core.Path.{refl}
+use Rattle.epa_polytope.proofs.Doing.{here}
 use Rattle.epa_polytope.proofs.Beginning.{not-begun, begun}
 use Rattle.epa_start.proofs.beginning.begin.Goals as goal
 

@@ -1,5 +1,4 @@
 -- What `ready` returns: `ready_of`, by the variant that the step is. Assumes nothing.
-use borrow.Author.Rules.{rules}
 use Rattle.epa_start.proofs.beginning.ready.Goals as goal
 
 pub returns-in-Ended : goal.returns-in-Ended

@@ -1,8 +1,6 @@
 -- `bootstrap` does what the run's `bootstrap` does: the search finds no second vertex, or the one that is pushed. Assumes nothing.
-use borrow.Author.Rules.{rules}
 use lib.Ieee.{of_bits}
 use Rattle.vector.specs.Vector.{y_v}
-use Rattle.epa_polytope.proofs.Doing.{place}
 use Rattle.epa_polytope.proofs.Starting.{none-far, far-pushed}
 use Rattle.epa_start.proofs.vertices.bootstrap.Goals as goal
 

@@ -1,6 +1,5 @@
 -- What `is_far_from` returns: `far_from` by computation, each call told by its contract. Assumes nothing.
 use Rattle.epa_polytope.specs.Start.{far_from}
-use Rattle.epa_polytope.proofs.Doing.{place}
 use Rattle.epa_start.proofs.vertices.is_far_from.Goals as goal
 
 pub returns : goal.returns

@@ -1,11 +1,10 @@
 -- `start_vertices` does what `start_vertices` does, of what has to be a simplex: its vertices, and a second one for a single one. Assumes nothing.
-use borrow.Author.Rules.{rules}
 use borrow.Author.Tests.{eq-eqb, ne_eqb}
 use mathlib.Core.Bool.{not}
 use mathlib.Core.Path.{refl, ap}
 use Rattle.epa_polytope.specs.Start.{start_vertices}
 use Rattle.epa_polytope.specs.Promises.{step_out}
-use Rattle.epa_polytope.proofs.Doing.{goes_on, ends-here, stopped, not_stopped, done-if, not_done, place}
+use Rattle.epa_polytope.proofs.Doing.{goes_on, ends-here, stopped, not_stopped, done-if, not_done}
 use Rattle.epa_polytope.proofs.Starting.{tested, within-four}
 use Rattle.epa_start.proofs.vertices.start_vertices.Goals as goal
 
