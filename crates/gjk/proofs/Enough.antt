@@ -15,14 +15,11 @@ use Rattle.number.specs.Constants.{eps_tol}
 use Rattle.number.specs.Root.{root}
 use Rattle.vector.specs.declared.vec3.Vec3.{Vec3}
 use Rattle.vector.specs.declared.vec3.MaybeVec3.{MaybeVec3}
-use Rattle.vector.specs.declared.vec3.MaybeVec3.TheVariants as MaybeVec3
 use Rattle.vector.specs.Vector.{zero_f, neg_v, dot_v, length_v, try_normalize_v, normalize_and_length_v, ◌⊖◌, ◌⊗◌}
 use Rattle.shape.specs.declared.vertex.Vertex.{Vertex}
 use Rattle.simplex.specs.declared.voronoi_simplex.VoronoiSimplex.{VoronoiSimplex}
 use Rattle.simplex.specs.declared.operations.Answer.{Answer}
-use Rattle.simplex.specs.declared.operations.Answer.TheVariants as Answer
 use Rattle.reduction.specs.declared.location.Projected.{Projected}
-use Rattle.reduction.specs.declared.location.Projected.TheVariants as Projected
 use Rattle.simplex.specs.Operations.{add_point}
 use Rattle.reduction.specs.Reduction.{project_origin_and_reduce}
 use Rattle.gjk.specs.declared.rounds.GJKResult.{GJKResult}

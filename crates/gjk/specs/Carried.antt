@@ -6,7 +6,6 @@ use Rattle.std.specs.Float.{Format}
 use Rattle.number.specs.Root.{root}
 use Rattle.simplex.specs.declared.voronoi_simplex.VoronoiSimplex.{VoronoiSimplex}
 use Rattle.gjk.specs.declared.rounds.GJKResult.{GJKResult}
-use Rattle.gjk.specs.declared.rounds.GJKResult.TheVariants as GJKResult
 use Rattle.gjk.specs.declared.rounds.Gjk.{Gjk}
 use Rattle.gjk.specs.declared.rounds.Carried.{Carried}
 use Rattle.gjk.specs.declared.rounds.Ending.{Ending}
@@ -16,9 +15,7 @@ use Rattle.gjk.specs.declared.rounds.Next.TheVariants.{Onward, Ended}
 use Rattle.gjk.specs.declared.rounds.Turn.{Turn}
 use Rattle.gjk.specs.declared.rounds.Ran.{Ran}
 use Rattle.gjk.specs.declared.rounds.Heading.{Heading}
-use Rattle.gjk.specs.declared.rounds.Heading.TheVariants as Heading
 use Rattle.gjk.specs.declared.rounds.Sight.{Sight}
-use Rattle.gjk.specs.declared.rounds.Sight.TheVariants as Sight
 use Rattle.gjk.specs.Gjk as Gjk
 use Rattle.gjk.specs.Gjk.{Round, round_of, Search, Part, goes_on, over, ended_with, ◌▷◌, closest_by, added, reduced}
 

@@ -12,19 +12,15 @@ use Rattle.number.specs.Root.{root}
 use Rattle.number.specs.Small.{gt, ge, larger}
 use Rattle.vector.specs.declared.vec3.Vec3.{Vec3}
 use Rattle.vector.specs.declared.vec3.MaybeVec3.{MaybeVec3}
-use Rattle.vector.specs.declared.vec3.MaybeVec3.TheVariants as MaybeVec3
 use Rattle.vector.specs.Vector.{zero_f, zero_v, x_v, neg_v, dot_v, length_v, try_normalize_v, normalize_and_length_v, ◌⊖◌, ◌⊗◌}
 use Rattle.shape.specs.declared.vertex.Vertex.{Vertex}
 use Rattle.shape.specs.Support.{from_shapes}
 use Rattle.simplex.specs.declared.voronoi_simplex.VoronoiSimplex.{VoronoiSimplex}
 use Rattle.simplex.specs.declared.operations.Answer.{Answer}
-use Rattle.simplex.specs.declared.operations.Answer.TheVariants as Answer
 use Rattle.reduction.specs.declared.location.Projected.{Projected}
-use Rattle.reduction.specs.declared.location.Projected.TheVariants as Projected
 use Rattle.simplex.specs.Operations.{add_point}
 use Rattle.reduction.specs.Reduction.{project_origin_and_reduce}
 use Rattle.witnesses.specs.declared.Witnesses.{Witnesses}
-use Rattle.witnesses.specs.declared.Witnesses.TheVariants as Witnesses
 use Rattle.witnesses.specs.Witnesses.{result_of}
 use Rattle.gjk.specs.declared.rounds.GJKResult.{GJKResult}
 use Rattle.gjk.specs.declared.rounds.GJKResult.TheVariants.{Intersection, ClosestPoints, Proximity, NoIntersection, Refused}

@@ -403,7 +403,7 @@ fn result_of(simplex: VoronoiSimplex, ending: Ending) -> GJKResult
 
 // The run's result and simplex. Refusal 2 hands the simplex back as it came in.
 fn finished(given: VoronoiSimplex, simplex: VoronoiSimplex, ending: Ending) -> Gjk
-    ensures* { λ g. ⌜ g ≡ finished_by given (record { simplex = simplex; result = result_by binary32 simplex ending }) ⌝ }
+    ensures { result ≡ finished_by given (record { simplex = simplex; result = result_by binary32 simplex ending }) }
 {
     let result = result_of(simplex, ending);
     match result {

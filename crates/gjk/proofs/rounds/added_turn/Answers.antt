@@ -1,5 +1,4 @@
 -- `added_turn` returns `added_by` and what follows it, answer by answer.
-use borrow.Author.Rules.{rules}
 use Rattle.gjk.specs.Carried.{result_by}
 use Rattle.gjk.proofs.rounds.added_turn.Goals as goal
 

@@ -1,5 +1,4 @@
 -- `closest_by` returns `closest_by`.
-use borrow.Author.Rules.{rules}
 use Rattle.gjk.specs.Gjk.{closest_by}
 use Rattle.gjk.proofs.rounds.closest_by.Goals as goal
 

@@ -1,5 +1,4 @@
 -- `reduced_turn` returns `reduced`, test by test: the two operations in turn are the reduction.
-use borrow.Author.Rules.{rules}
 use borrow.Author.Tests.{eq-eqb, ne_eqb}
 use lib.Ieee.{of_bits}
 use Rattle.vector.specs.Vector.{x_v}

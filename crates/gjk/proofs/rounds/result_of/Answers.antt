@@ -1,5 +1,4 @@
 -- `result_of` returns `result_by`, ending by ending.
-use borrow.Author.Rules.{rules}
 use Rattle.gjk.specs.Carried.{result_by}
 use Rattle.gjk.proofs.rounds.result_of.Goals as goal
 

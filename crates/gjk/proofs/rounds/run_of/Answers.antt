@@ -2,7 +2,6 @@
 use Prim.Native.Nat.{ℕ, suc, ◌+◌, ◌-◌, ◌<◌, ◌≤◌}
 use mathlib.Core.Path.{◌≡◌, ◌∙◌, sym, ap, refl}
 use native.Mathlib.Omega.{arith}
-use borrow.Author.Rules.{rules}
 use lib.Ieee.{Float, binary32, of_bits}
 use Rattle.vector.specs.declared.vec3.Vec3.{Vec3}
 use Rattle.vector.specs.Vector.{x_v}
@@ -12,7 +11,6 @@ use Rattle.simplex.specs.declared.operations.Added.{Added}
 use Rattle.simplex.specs.Operations.{add_point}
 use Rattle.gjk.specs.declared.rounds.Ending.{Ending}
 use Rattle.gjk.specs.declared.rounds.Sight.{Sight}
-use Rattle.gjk.specs.declared.rounds.Sight.TheVariants as Sight
 use Rattle.gjk.specs.declared.rounds.Carried.{Carried}
 use Rattle.gjk.specs.declared.rounds.Next.TheVariants.{Onward, Ended}
 use Rattle.gjk.specs.declared.rounds.Turn.{Turn}
@@ -40,17 +38,17 @@ unfolding same_niter_seen
 few-seen n t q dir m v e is h = let same : q.niter ≡ n = (rw is at e) in rw same h
 
 -- a turn that goes on leaves one turn less, and one that ends is the run's end
-goes_on : (k : Search) (i : ℕ) (s : VoronoiSimplex) (r : Round) (q : Carried) (t : Turn) → i < 107 → turn_by binary32 t ≡ turn_of binary32 k s r → t.next-1 ≡ Onward q → run_of binary32 k (107 - (i + 1)) t.simplex (round_by binary32 q) ≡ run_of binary32 k (107 - i) s r
+goes_on : (k : Search) (i : ℕ) (s : VoronoiSimplex) (r : Round) (q : Carried) (t : Turn) → i < 107 → turn_by binary32 t ≡ turn_of binary32 k s r → t.next ≡ Onward q → run_of binary32 k (107 - (i + 1)) t.simplex (round_by binary32 q) ≡ run_of binary32 k (107 - i) s r
 unfolding run_of after turn_by next_by
 goes_on k i s r q t h e d = rw (left i h, ← e, d)
 
-ends : (k : Search) (i : ℕ) (s : VoronoiSimplex) (r : Round) (t : Turn) (x : Ending) → i < 107 → turn_by binary32 t ≡ turn_of binary32 k s r → t.next-1 ≡ Ended x → ran_by binary32 (record { simplex = t.simplex; ending = x }) ≡ run_of binary32 k (107 - i) s r
+ends : (k : Search) (i : ℕ) (s : VoronoiSimplex) (r : Round) (t : Turn) (x : Ending) → i < 107 → turn_by binary32 t ≡ turn_of binary32 k s r → t.next ≡ Ended x → ran_by binary32 (record { simplex = t.simplex; ending = x }) ≡ run_of binary32 k (107 - i) s r
 unfolding run_of after turn_by next_by
 ends k i s r t x h e d = rw (left i h, ← e, d)
 
-still-few : (k : Search) (s : VoronoiSimplex) (r : Round) (q : Carried) (t : Turn) → r.niter < 100 → turn_by binary32 t ≡ turn_of binary32 k s r → t.next-1 ≡ Onward q → q.niter < 100
+still-few : (k : Search) (s : VoronoiSimplex) (r : Round) (q : Carried) (t : Turn) → r.niter < 100 → turn_by binary32 t ≡ turn_of binary32 k s r → t.next ≡ Onward q → q.niter < 100
 unfolding turn_by next_by
-still-few k s r q t w e d = few-after binary32 k s r (round_by binary32 q) w (ap (λ (x : Gjk.Turn). x.next-1) (sym e) ∙ ap (next_by binary32 t.simplex) d)
+still-few k s r q t w e d = few-after binary32 k s r (round_by binary32 q) w (ap (λ (x : Gjk.Turn). x.next) (sym e) ∙ ap (next_by binary32 t.simplex) d)
 
 spent : (k : Search) (i : ℕ) (s : VoronoiSimplex) (r : Round) → 107 ≤ i → run_of binary32 k (107 - i) s r ≡ run_of binary32 k 0 s r
 spent k i s r h = let z : 107 - i ≡ 0 = omega arith in rw z

@@ -1,7 +1,6 @@
 -- `sight_of` returns what a turn of the definition sees.
 use Prim.Native.Nat.{ℕ}
-use mathlib.Core.Path.{◌≡◌, ◌∙◌, sym, subst}
-use borrow.Author.Rules.{rules}
+use mathlib.Core.Path.{◌≡◌, ◌∙◌}
 use lib.Ieee.{binary32}
 use Rattle.vector.specs.declared.vec3.Vec3.{Vec3}
 use Rattle.simplex.specs.declared.voronoi_simplex.VoronoiSimplex.{VoronoiSimplex}
@@ -28,12 +27,10 @@ unfolding same_niter
 same n h c dir t e is seen = let now : c.niter ≡ n = (rw is at e) in rw now at seen
 
 pub returns-in-Toward-clause-turn : goal.returns-in-Toward-clause-turn
-returns-in-Toward-clause-turn c = (let at = c.heading_of-heading.ensures in
-    ((λ s. c.probed.ensures.turn s ∙ toward _ s _ _ _ _ (at.0 s) c.in-Toward.is), same _ _ _ _ _ at.1 c.in-Toward.is c.probed.ensures.round)).0
+returns-in-Toward-clause-turn c = λ s. c.probed.ensures.turn s ∙ toward _ s _ _ _ _ (c.heading_of-heading.ensures.turn s) c.in-Toward.is
 
 pub returns-in-Toward-clause-round : goal.returns-in-Toward-clause-round
-returns-in-Toward-clause-round c = (let at = c.heading_of-heading.ensures in
-    ((λ s. c.probed.ensures.turn s ∙ toward _ s _ _ _ _ (at.0 s) c.in-Toward.is), same _ _ _ _ _ at.1 c.in-Toward.is c.probed.ensures.round)).1
+returns-in-Toward-clause-round c = same _ _ _ _ _ c.heading_of-heading.ensures.round c.in-Toward.is c.probed.ensures.round
 
 pub returns-in-Ended-clause-turn : goal.returns-in-Ended-clause-turn
 unfolding seen_by same_niter_seen

@@ -2,7 +2,6 @@
 use Prim.Native.Nat.{◌+◌}
 use mathlib.Core.Path.{◌≡◌, ◌∙◌, refl, sym}
 use mathlib.Core.Bool.{true, false}
-use borrow.Author.Rules.{rules}
 use borrow.Author.Tests.{le-ltb, lt-ltb}
 use lib.Dec.{ltb}
 use lib.Ieee.{binary32, of_bits}
@@ -18,7 +17,7 @@ use Rattle.gjk.proofs.rounds.stagnated.Goals as goal
 
 -- the direction is perturbed
 abbrev perturbed : Carried → Carried
-perturbed r = record { proj = r.proj; old_dir = r.old_dir-1; max_bound = r.max_bound; best_min_bound = r.best_min_bound; support_square = r.support_square; nb_perturbs = r.nb_perturbs + 1; niter = r.niter }
+perturbed r = record { proj = r.proj; old_dir = r.old_dir; max_bound = r.max_bound; best_min_bound = r.best_min_bound; support_square = r.support_square; nb_perturbs = r.nb_perturbs + 1; niter = r.niter }
 
 perturbs : (k : Search) (s : VoronoiSimplex) (r : Carried) (dir d : Vec3) → gt r.best_min_bound zero_f ≡ false → touching binary32 k (round_by binary32 r) ≡ false → ltb r.nb_perturbs max_perturbations ≡ true → d ≡ perturbed_dir binary32 dir (r.nb_perturbs + 1) →
     goes_on s (round_by binary32 (perturbed r)) d ≡ stagnated binary32 k s (round_by binary32 r) dir
@@ -43,13 +42,12 @@ returns-then-is_touching-clause-round c = tt
 
 pub returns-then-r-lt-MAX_PERTURBATIONS-clause-part : goal.returns-then-r-lt-MAX_PERTURBATIONS-clause-part
 unfolding headed_by same_niter of_bits
-returns-then-r-lt-MAX_PERTURBATIONS-clause-part c = (let at = c in
-    ((λ s. perturbs _ s _ _ _ at.if-r.false (sym at.is_touching.ensures ∙ at.if-is_touching.false) (lt-ltb _ _ c.if-r-lt-MAX_PERTURBATIONS.true) c.perturbed_dir.ensures), refl)).0
+returns-then-r-lt-MAX_PERTURBATIONS-clause-part c =
+    λ s. perturbs _ s _ _ _ c.if-r.false (sym c.is_touching.ensures ∙ c.if-is_touching.false) (lt-ltb _ _ c.if-r-lt-MAX_PERTURBATIONS.true) c.perturbed_dir.ensures
 
 pub returns-then-r-lt-MAX_PERTURBATIONS-clause-round : goal.returns-then-r-lt-MAX_PERTURBATIONS-clause-round
 unfolding headed_by same_niter of_bits
-returns-then-r-lt-MAX_PERTURBATIONS-clause-round c = (let at = c in
-    ((λ s. perturbs _ s _ _ _ at.if-r.false (sym at.is_touching.ensures ∙ at.if-is_touching.false) (lt-ltb _ _ c.if-r-lt-MAX_PERTURBATIONS.true) c.perturbed_dir.ensures), refl)).1
+returns-then-r-lt-MAX_PERTURBATIONS-clause-round c = refl
 
 pub returns-clause-part : goal.returns-clause-part
 unfolding stagnated headed_by same_niter result_by of_bits

@@ -1,5 +1,4 @@
 -- `start_of` returns `start_of`: the two operations in turn are the reduction.
-use borrow.Author.Rules.{rules}
 use lib.Ieee.{of_bits}
 use Rattle.number.specs.Root.{root}
 use Rattle.reduction.proofs.Fits.{both-in-turn}

@@ -19,5 +19,5 @@ square-fits f p = add-fits f _ _
 pub returns : goal.returns
 unfolding length_v
 returns c =
-    let start = c in
-    simp (c.max.ensures, c.length_squared.ensures, larger-root binary32 start.args.kept (length_squared_v binary32 start.args.point) (kept-fits start) (square-fits binary32 start.args.point))
+    let start = (goal.at.returns c).Start in
+    simp (c.max.ensures, c.length_squared.ensures, larger-root binary32 c.args.kept (length_squared_v binary32 c.args.point) (kept-fits start) (square-fits binary32 c.args.point))
