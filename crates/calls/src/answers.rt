@@ -1,6 +1,6 @@
 // What a function answers: four sizes, which are a number (a yes or no, document 01's number, or the place of a case in its list), a kind, a
 // count and a place, and ten floats, a number and three vectors. What an answer has not got is zeros.
-use crate::words::{put_floats, put_sizes};
+use crate::words::{Output, put_floats, put_sizes};
 use shape::Vertex;
 use vector::Vec3;
 
@@ -62,7 +62,7 @@ pub fn placed(p: Vec3, kind: usize, place: u32, u: f32, v: f32, w: f32) -> Answe
     }
 }
 
-pub fn put_answer(out: &mut [u8; 65_536], at: usize, answer: Answer) -> usize {
+pub fn put_answer(out: &mut Output, at: usize, answer: Answer) -> usize {
     let sizes = answer.sizes;
     let floats = answer.floats;
     let next = put_sizes(out, at, &sizes);

@@ -2,7 +2,7 @@
 use crate::answers::{Answer, of_vector, of_vectors, put_answer, said};
 use crate::simplices::{answer_number, projected};
 use crate::values::{pose_at, put_simplex, shape_at, simplex_at, vector_at, vertex_at};
-use crate::words::{number_at, size_at, word_at};
+use crate::words::{Output, number_at, size_at, word_at};
 use calls_lent::{add_point_lent, apply_lent, reduce_lent, reset_lent};
 use gjk::{GJKResult, Gjk};
 use reduction::{Application, Applied, Location};
@@ -125,7 +125,7 @@ pub fn change(function: u32, args: &[u8]) -> Changed {
     operated(function, s, vertex_at(args, 54), args)
 }
 
-pub fn put_changed(out: &mut [u8; 65_536], at: usize, changed: Changed) -> usize {
+pub fn put_changed(out: &mut Output, at: usize, changed: Changed) -> usize {
     let simplex = changed.simplex;
     let answer = changed.answer;
     let next = put_simplex(out, at, simplex);

@@ -2,7 +2,7 @@
 // 01's number, 1 where there was an entry, the count, the entry's face and key) come both lists.
 use crate::answers::{Answer, put_answer};
 use crate::stores::{floats_from, length_at, put_first_floats, put_first_sizes, sizes_from};
-use crate::words::{number_at, size_at};
+use crate::words::{Output, number_at, size_at};
 use heap::{Peeked, Popped, Pushed};
 
 fn told(number: usize, some: usize, count: usize, face: usize, key: f32) -> Answer {
@@ -56,7 +56,7 @@ fn over(function: u32, args: &[u8], faces: &mut [usize], keys: &mut [f32]) -> An
     popped(heap::pop(faces, keys, count), count)
 }
 
-pub fn answer(function: u32, args: &[u8], out: &mut [u8; 65_536], at: usize) -> usize {
+pub fn answer(function: u32, args: &[u8], out: &mut Output, at: usize) -> usize {
     let n = length_at(args, 6);
     let m = length_at(args, 8);
     let mut faces = sizes_from(args, 5, n);

@@ -21,15 +21,16 @@ mod words;
 
 use answers::{Answer, put_answer};
 use changes::{change, put_changed};
-use libc::STDIN_FILENO;
-use words::{flush, put_word, word_at};
+use std::io::Read;
+use words::{Output, flush, put_word, word_at};
 
-fn main() {
+fn main(rt: HostRuntime) {
+    let mut stdin = rt.stdin();
     let mut block = [0u8; 131_072];
-    let mut out = io::large_buffer();
+    let mut out = Output::new(rt.stdout());
     let mut n: u64 = 0;
     while n < 4_294_967_295 {
-        if io::read_full(STDIN_FILENO, &mut block) < 131_072 {
+        if stdin.read_exact(&mut block).is_err() {
             return;
         }
         answer_block(&block, &mut out);
@@ -38,7 +39,7 @@ fn main() {
 }
 
 // What is answered is written before more is read.
-fn answer_block(block: &[u8], out: &mut [u8; 65_536]) {
+fn answer_block(block: &[u8], out: &mut Output) {
     let mut at: usize = 0;
     let mut from: usize = 0;
     while from < 32_768 {
@@ -63,7 +64,7 @@ fn after(words: &[u8], n: usize) -> &[u8]
     &words[at..]
 }
 
-fn answer_call(call: &[u8], out: &mut [u8; 65_536], at: usize) -> usize {
+fn answer_call(call: &[u8], out: &mut Output, at: usize) -> usize {
     let function = word_at(call, 0);
     let args = after(call, 1);
     if function <= 59 {
@@ -76,7 +77,7 @@ fn answer_call(call: &[u8], out: &mut [u8; 65_536], at: usize) -> usize {
 }
 
 // Functions whose answers are lists.
-fn answer_list(function: u32, args: &[u8], out: &mut [u8; 65_536], at: usize) -> usize {
+fn answer_list(function: u32, args: &[u8], out: &mut Output, at: usize) -> usize {
     if function <= 73 {
         return heaps::answer(function, args, out, at);
     }

@@ -9,7 +9,7 @@ use crate::stores::{
     sizes_from,
 };
 use crate::values::{pose_at, shape_at, simplex_at};
-use crate::words::put_sizes;
+use crate::words::{Output, put_sizes};
 use epa_polytope::{End, Found, Lost, Site, Store};
 
 fn found_way(why: Found) -> usize {
@@ -59,7 +59,7 @@ fn ended(end: End) -> Answer {
     }
 }
 
-fn put_told(out: &mut [u8; 65_536], at: usize, told: epa::Answer) -> usize {
+fn put_told(out: &mut Output, at: usize, told: epa::Answer) -> usize {
     let end = told.end;
     let counts = told.counts;
     let next = put_answer(out, at, ended(end));
@@ -77,7 +77,7 @@ fn put_told(out: &mut [u8; 65_536], at: usize, told: epa::Answer) -> usize {
 }
 
 fn put_faces(
-    out: &mut [u8; 65_536],
+    out: &mut Output,
     at: usize,
     args: &[u8],
     vertices: [f32; 6_144],
@@ -92,7 +92,7 @@ fn put_faces(
 }
 
 fn put_queues(
-    out: &mut [u8; 65_536],
+    out: &mut Output,
     at: usize,
     args: &[u8],
     edges: [usize; 6_144],
@@ -114,7 +114,7 @@ fn pending_length(plain: bool, args: &[u8]) -> usize
     0
 }
 
-pub fn answer(plain: bool, args: &[u8], out: &mut [u8; 65_536], at: usize) -> usize {
+pub fn answer(plain: bool, args: &[u8], out: &mut Output, at: usize) -> usize {
     let simplex = simplex_at(args, 0);
     let pose = pose_at(args, 54);
     let g1 = shape_at(args, 61);

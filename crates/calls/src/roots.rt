@@ -1,13 +1,13 @@
 // The root of patterns. Function 76 has a first pattern and a count, and answers the bits of the root of each from the first on. Function 77
 // is for the root's time alone: a first pattern, a step, a count and a mask; each root waits for the one before it, as its bits under the
 // mask alter the next pattern. The mask is 0, which neither compiler nor processor knows. It answers the last root's bits.
-use crate::words::{put_word, word_at};
+use crate::words::{Output, put_word, word_at};
 
 fn root_bits(pattern: u32) -> u32 {
     number::to_bits(number::sqrt(number::from_bits(pattern)))
 }
 
-pub fn range(args: &[u8], out: &mut [u8; 65_536], at: usize) -> usize {
+pub fn range(args: &[u8], out: &mut Output, at: usize) -> usize {
     let first = word_at(args, 0);
     let n = word_at(args, 1);
     let mut place = at;

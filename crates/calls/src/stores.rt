@@ -2,7 +2,7 @@
 // arguments and its length, and its content stands at that place.
 ghost use Rattle.std.specs.Prelude.{◌≡◌, ◌≤◌, length, take};
 
-use crate::words::{number_at, put_bytes, put_floats, put_sizes, size_at, word_at};
+use crate::words::{Output, number_at, put_bytes, put_floats, put_sizes, size_at, word_at};
 
 // The word that is a list's length, at most 6,144.
 pub fn length_at(words: &[u8], i: usize) -> usize
@@ -72,34 +72,19 @@ pub(crate) fn bytes_from(words: &[u8], i: usize, n: usize) -> [u8; 6_144]
 
 // ---- the first n
 
-pub(crate) fn put_first_floats(
-    out: &mut [u8; 65_536],
-    at: usize,
-    list: [f32; 6_144],
-    n: usize,
-) -> usize
+pub(crate) fn put_first_floats(out: &mut Output, at: usize, list: [f32; 6_144], n: usize) -> usize
     requires { n ≤ 6_144 }
 {
     put_floats(out, at, &list[..n])
 }
 
-pub(crate) fn put_first_sizes(
-    out: &mut [u8; 65_536],
-    at: usize,
-    list: [usize; 6_144],
-    n: usize,
-) -> usize
+pub(crate) fn put_first_sizes(out: &mut Output, at: usize, list: [usize; 6_144], n: usize) -> usize
     requires { n ≤ 6_144 }
 {
     put_sizes(out, at, &list[..n])
 }
 
-pub(crate) fn put_first_bytes(
-    out: &mut [u8; 65_536],
-    at: usize,
-    list: [u8; 6_144],
-    n: usize,
-) -> usize
+pub(crate) fn put_first_bytes(out: &mut Output, at: usize, list: [u8; 6_144], n: usize) -> usize
     requires { n ≤ 6_144 }
 {
     put_bytes(out, at, &list[..n])

@@ -3,7 +3,7 @@
 // two origins, a simplex its fields in their order.
 ghost use Rattle.std.specs.Prelude.{◌≤◌};
 
-use crate::words::{number_at, put_floats, put_sizes, size_at, word_at};
+use crate::words::{Output, number_at, put_floats, put_sizes, size_at, word_at};
 use shape::{Shape, Vertex};
 use simplex::VoronoiSimplex;
 use vector::{Pose, Rotation, Vec3};
@@ -118,7 +118,7 @@ pub(crate) fn simplex_at(words: &[u8], i: usize) -> VoronoiSimplex
 
 // ---- put
 
-fn put_vertices(out: &mut [u8; 65_536], at: usize, vertices: [Vertex; 4]) -> usize {
+fn put_vertices(out: &mut Output, at: usize, vertices: [Vertex; 4]) -> usize {
     let mut place = at;
     let mut i: usize = 0;
     while i < 4 {
@@ -132,7 +132,7 @@ fn put_vertices(out: &mut [u8; 65_536], at: usize, vertices: [Vertex; 4]) -> usi
     place
 }
 
-pub fn put_simplex(out: &mut [u8; 65_536], at: usize, s: VoronoiSimplex) -> usize {
+pub fn put_simplex(out: &mut Output, at: usize, s: VoronoiSimplex) -> usize {
     let places = s.prev_vertices;
     let prev_proj = s.prev_proj;
     let vertices = s.vertices;

@@ -2,7 +2,7 @@
 // written where it is full. A float is its bits, all NaNs one; a `usize` two words, the low one first.
 ghost use Rattle.std.specs.Prelude.{◌≤◌};
 
-use libc::STDOUT_FILENO;
+use std::io::Stdout;
 
 // ---- read
 
@@ -37,16 +37,32 @@ pub fn size_at(words: &[u8], i: usize) -> usize
 
 // ---- put: each function answers the place after what it puts
 
+// What is not written yet, and where it is written.
+#[derive(Drop)]
+pub struct Output {
+    bytes: [u8; 65_536],
+    stdout: Stdout,
+}
+
+impl Output {
+    pub fn new(stdout: Stdout) -> Output {
+        Output {
+            bytes: [0; 65_536],
+            stdout,
+        }
+    }
+}
+
 // The output up to `at` is written.
-pub fn flush(out: &[u8], at: usize) {
-    if out.len() < at {
+pub fn flush(out: &Output, at: usize) {
+    if out.bytes.len() < at {
         return;
     }
-    io::write_all(STDOUT_FILENO, &out[..at]);
+    let _ = out.stdout.write_all(&out.bytes[..at]);
 }
 
 // A place from which a word has room: `at`, or, once the output is written, its start.
-fn with_room(out: &[u8; 65_536], at: usize) -> usize
+fn with_room(out: &Output, at: usize) -> usize
     ensures { result ≤ 65_532 }
 {
     if at <= 65_532 {
@@ -60,23 +76,23 @@ fn low_byte(word: u32) -> u8 {
     (word % 256) as u8
 }
 
-pub fn put_word(out: &mut [u8; 65_536], at: usize, word: u32) -> usize {
+pub fn put_word(out: &mut Output, at: usize, word: u32) -> usize {
     let place = with_room(out, at);
-    out[place] = low_byte(word);
-    out[place + 1] = low_byte(word / 0x100);
-    out[place + 2] = low_byte(word / 0x1_0000);
-    out[place + 3] = low_byte(word / 0x100_0000);
+    out.bytes[place] = low_byte(word);
+    out.bytes[place + 1] = low_byte(word / 0x100);
+    out.bytes[place + 2] = low_byte(word / 0x1_0000);
+    out.bytes[place + 3] = low_byte(word / 0x100_0000);
     place + 4
 }
 
-fn put_size(out: &mut [u8; 65_536], at: usize, size: usize) -> usize {
+fn put_size(out: &mut Output, at: usize, size: usize) -> usize {
     let low = (size % 4_294_967_296) as u32;
     let high = (size / 4_294_967_296) as u32;
     let next = put_word(out, at, low);
     put_word(out, next, high)
 }
 
-pub fn put_floats(out: &mut [u8; 65_536], at: usize, list: &[f32]) -> usize {
+pub fn put_floats(out: &mut Output, at: usize, list: &[f32]) -> usize {
     let mut place = at;
     let mut i: usize = 0;
     while i < list.len() {
@@ -86,7 +102,7 @@ pub fn put_floats(out: &mut [u8; 65_536], at: usize, list: &[f32]) -> usize {
     place
 }
 
-pub fn put_sizes(out: &mut [u8; 65_536], at: usize, list: &[usize]) -> usize {
+pub fn put_sizes(out: &mut Output, at: usize, list: &[usize]) -> usize {
     let mut place = at;
     let mut i: usize = 0;
     while i < list.len() {
@@ -97,7 +113,7 @@ pub fn put_sizes(out: &mut [u8; 65_536], at: usize, list: &[usize]) -> usize {
 }
 
 // A word for each.
-pub fn put_bytes(out: &mut [u8; 65_536], at: usize, list: &[u8]) -> usize {
+pub fn put_bytes(out: &mut Output, at: usize, list: &[u8]) -> usize {
     let mut place = at;
     let mut i: usize = 0;
     while i < list.len() {

@@ -22,9 +22,9 @@ enum Campaign {
     Failed,
 }
 
-fn main() {
-    let mut input = io::large_buffer();
-    let mut out = io::large_buffer();
+fn main(rt: HostRuntime) {
+    let mut input = [0u8; 65_536];
+    let mut out = [0u8; 65_536];
     let mut vertices = [0.0f32; 945];
     let mut ids = [0usize; 6000];
     let mut floats = [0.0f32; 6000];
@@ -37,6 +37,7 @@ fn main() {
     let mut n: u64 = 0;
     while n < MOST_TURNS {
         let next = turn(
+            &rt,
             campaign,
             n + 1,
             &mut input,
@@ -51,13 +52,13 @@ fn main() {
             &mut pending,
         );
         if !is_open(next) {
-            finish(next, &mut out);
+            finish(&rt, next, &mut out);
             return;
         }
         campaign = next;
         n = n + 1;
     }
-    finish(campaign, &mut out);
+    finish(&rt, campaign, &mut out);
 }
 
 fn is_open(campaign: Campaign) -> bool {
@@ -70,6 +71,7 @@ fn is_open(campaign: Campaign) -> bool {
 
 // The record `number` is counted, where there is one. Nothing is written before the end.
 fn turn(
+    rt: &HostRuntime,
     campaign: Campaign,
     number: u64,
     input: &mut [u8],
@@ -86,7 +88,13 @@ fn turn(
     let Campaign::Open(given, figures) = campaign else {
         return Campaign::Failed;
     };
-    let ready = pipes::make_ready(State::Open(given, 0), input, out);
+    let ready = pipes::make_ready(
+        &mut rt.stdin(),
+        &mut rt.stdout(),
+        State::Open(given, 0),
+        input,
+        out,
+    );
     match ready {
         Ready::Over(over) => ended(over, figures),
         Ready::Record(window, _) => {
@@ -141,20 +149,20 @@ fn after(answer: Reckoned, w: Window, figures: Figures) -> Campaign {
     }
 }
 
-fn finish(campaign: Campaign, out: &mut [u8]) {
+fn finish(rt: &HostRuntime, campaign: Campaign, out: &mut [u8]) {
     match campaign {
-        Campaign::Open(_, figures) => tell(figures, Stop::File, out),
-        Campaign::Over(figures, stop) => tell(figures, stop, out),
-        Campaign::Failed => pipes::complain(b"campaign: a read failed\n"),
+        Campaign::Open(_, figures) => tell(rt, figures, Stop::File, out),
+        Campaign::Over(figures, stop) => tell(rt, figures, stop, out),
+        Campaign::Failed => pipes::complain(&mut rt.stderr(), b"campaign: a read failed\n"),
     }
 }
 
-fn tell(figures: Figures, stop: Stop, out: &mut [u8]) {
+fn tell(rt: &HostRuntime, figures: Figures, stop: Stop, out: &mut [u8]) {
     let written = figures::write_campaign(out, 0, figures, stop);
     let Placed::Next(end) = written else {
         return;
     };
-    if !pipes::flushed(out, end) {
-        pipes::complain(b"campaign: a write failed\n");
+    if !pipes::flushed(&mut rt.stdout(), out, end) {
+        pipes::complain(&mut rt.stderr(), b"campaign: a write failed\n");
     }
 }

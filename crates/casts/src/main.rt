@@ -7,18 +7,19 @@
 ghost use Rattle.std.specs.Prelude.{◌≤◌};
 
 use cast::{Cast, Ray};
-use libc::{STDIN_FILENO, STDOUT_FILENO};
 use shape::Shape;
+use std::io::Read;
 use vector::{Pose, Rotation, Vec3};
 
-fn main() {
+fn main(rt: HostRuntime) {
+    let mut stdin = rt.stdin();
     let mut record = [0u8; 136];
     let mut n: u64 = 0;
     while n < 4_294_967_295 {
-        if io::read_full(STDIN_FILENO, &mut record) < 136 {
+        if stdin.read_exact(&mut record).is_err() {
             return;
         }
-        print_cast(cast_of(record));
+        print_cast(&rt, cast_of(record));
         n = n + 1;
     }
 }
@@ -93,15 +94,15 @@ fn wide(byte: u8) -> u32
     byte as u32
 }
 
-fn print_cast(cast: Cast) {
+fn print_cast(rt: &HostRuntime, cast: Cast) {
     match cast {
-        Cast::Impact(time, dir) => print_line(b'0', time, dir),
-        Cast::Miss => print_line(b'6', 0.0, Vec3::ZERO),
-        Cast::Refused => print_line(b'2', 0.0, Vec3::ZERO),
+        Cast::Impact(time, dir) => print_line(rt, b'0', time, dir),
+        Cast::Miss => print_line(rt, b'6', 0.0, Vec3::ZERO),
+        Cast::Refused => print_line(rt, b'2', 0.0, Vec3::ZERO),
     }
 }
 
-fn print_line(number: u8, time: f32, dir: Vec3) {
+fn print_line(rt: &HostRuntime, number: u8, time: f32, dir: Vec3) {
     let mut line = [b' '; 38];
     line[0] = number;
     put_number(&mut line, 2, time);
@@ -109,11 +110,11 @@ fn print_line(number: u8, time: f32, dir: Vec3) {
     put_number(&mut line, 20, dir.y);
     put_number(&mut line, 29, dir.z);
     line[37] = b'\n';
-    print_text(&line);
+    print_text(rt, &line);
 }
 
-fn print_text(text: &[u8; 38]) {
-    io::write_all(STDOUT_FILENO, text);
+fn print_text(rt: &HostRuntime, text: &[u8; 38]) {
+    let _ = rt.write_all(text);
 }
 
 // Eight digits from `at` on.

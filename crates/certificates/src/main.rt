@@ -6,16 +6,16 @@
 ghost use Rattle.std.specs.Prelude.{◌≤◌, length};
 
 use certificate::{Certificate, GridVector};
-use libc::{STDIN_FILENO, STDOUT_FILENO};
+use std::io::Read;
 
-fn main() {
+fn main(rt: HostRuntime) {
     let mut n: u64 = 0;
     while n < 4_294_967_295 {
         let mut head = [0u8; 20];
-        if io::read_full(STDIN_FILENO, &mut head) < 20 {
+        if rt.stdin().read_exact(&mut head).is_err() {
             return;
         }
-        if !answer_case(head) {
+        if !answer_case(&rt, head) {
             return;
         }
         n = n + 1;
@@ -23,7 +23,7 @@ fn main() {
 }
 
 // False: the case is too long, or cut off.
-fn answer_case(head: [u8; 20]) -> bool {
+fn answer_case(rt: &HostRuntime, head: [u8; 20]) -> bool {
     let first = head_word(head, 0);
     let second = head_word(head, 4);
     if 256 < first {
@@ -32,7 +32,7 @@ fn answer_case(head: [u8; 20]) -> bool {
     if 256 < second {
         return false;
     }
-    answer_numbers(first as usize, second as usize, direction_of(head))
+    answer_numbers(rt, first as usize, second as usize, direction_of(head))
 }
 
 fn direction_of(head: [u8; 20]) -> GridVector {
@@ -44,13 +44,13 @@ fn direction_of(head: [u8; 20]) -> GridVector {
 }
 
 // Reads the numbers of both hulls and prints the answer. False: the case is cut off.
-fn answer_numbers(first: usize, second: usize, direction: GridVector) -> bool
+fn answer_numbers(rt: &HostRuntime, first: usize, second: usize, direction: GridVector) -> bool
     requires fact_1 { first ≤ 256 }
     requires fact_2 { second ≤ 256 }
 {
     let mut body = [0u8; 2048];
     let both = first + second;
-    if io::read_full(STDIN_FILENO, &mut body[..both * 4]) < both * 4 {
+    if rt.stdin().read_exact(&mut body[..both * 4]).is_err() {
         return false;
     }
     let mut numbers = [0i32; 512];
@@ -60,7 +60,7 @@ fn answer_numbers(first: usize, second: usize, direction: GridVector) -> bool
         numbers[i] = value;
         i += 1;
     }
-    print_answer(answer_of(&numbers[..both], first, direction));
+    print_answer(rt, answer_of(&numbers[..both], first, direction));
     true
 }
 
@@ -71,22 +71,22 @@ fn answer_of(numbers: &[i32], first: usize, direction: GridVector) -> Certificat
     certificate::certify(&numbers[..first], &numbers[first..], direction)
 }
 
-fn print_answer(answer: Certificate) {
+fn print_answer(rt: &HostRuntime, answer: Certificate) {
     match answer {
-        Certificate::Accepted => print_number(b' ', b'0'),
-        Certificate::BadLength => print_number(b' ', b'9'),
-        Certificate::OutOfRange => print_number(b'1', b'0'),
-        Certificate::NotSeparated => print_number(b'1', b'1'),
+        Certificate::Accepted => print_number(rt, b' ', b'0'),
+        Certificate::BadLength => print_number(rt, b' ', b'9'),
+        Certificate::OutOfRange => print_number(rt, b'1', b'0'),
+        Certificate::NotSeparated => print_number(rt, b'1', b'1'),
     }
 }
 
-fn print_number(tens: u8, ones: u8) {
+fn print_number(rt: &HostRuntime, tens: u8, ones: u8) {
     let line = [tens, ones, b'\n'];
-    print_text(&line);
+    print_text(rt, &line);
 }
 
-fn print_text(text: &[u8; 3]) {
-    io::write_all(STDOUT_FILENO, text);
+fn print_text(rt: &HostRuntime, text: &[u8; 3]) {
+    let _ = rt.write_all(text);
 }
 
 fn head_word(head: [u8; 20], at: usize) -> u32

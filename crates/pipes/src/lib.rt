@@ -8,7 +8,7 @@
 ghost use Rattle.std.specs.Prelude.{◌≡◌, true};
 ghost use Rattle.pipes.specs.Pipes.{start_window, enough_of, Kept, Brought, ReadOn, Read, Filled, Written, Roomy, is_open, after_turn, Readied};
 
-use libc::{STDERR_FILENO, STDIN_FILENO, STDOUT_FILENO};
+use std::io::{Read, Write};
 use window::{Turn, Window};
 
 // So many bytes always decide a record.
@@ -74,30 +74,26 @@ pub fn start() -> Window
 }
 
 // One read into the buffer from `at` on.
-fn read_from(input: &mut [u8], at: usize) -> Got
+fn read_from<R: Read>(stdin: &mut R, input: &mut [u8], at: usize) -> Got
     ensures brought { Brought at result }
     ensures kept { Kept at input.old input.new }
 {
     if input.len() <= at {
         return Got::Failed;
     }
-    let got = libc::read(STDIN_FILENO, &mut input[at..]);
-    if got < 0 {
-        return Got::Failed;
+    match stdin.read(&mut input[at..]) {
+        Err(_) => Got::Failed,
+        Ok(0) => Got::End,
+        Ok(n) => Got::Until(at + n),
     }
-    let n = io::count(got, &input[at..]);
-    if n == 0 {
-        return Got::End;
-    }
-    Got::Until(at + n)
 }
 
 // The window with what one read brings.
-fn read_on(input: &mut [u8], w: Window) -> Seen
+fn read_on<R: Read>(stdin: &mut R, input: &mut [u8], w: Window) -> Seen
     ensures read_on { ReadOn w result }
     ensures kept { Kept w.until input.old input.new }
 {
-    let got = read_from(input, w.until);
+    let got = read_from(stdin, input, w.until);
     match got {
         Got::Until(until) => Seen::At(Window {
             base: w.base,
@@ -126,7 +122,7 @@ fn has_enough(w: Window) -> bool
 }
 
 // At least 160 bytes from the buffer's start on, or the file's rest. Each read brings a byte at least.
-fn read_enough(input: &mut [u8], w: Window) -> Seen
+fn read_enough<R: Read>(stdin: &mut R, input: &mut [u8], w: Window) -> Seen
     requires { w.«from» ≡ 0 }
     ensures read { Read w result }
     ensures kept { Kept w.until input.old input.new }
@@ -137,7 +133,7 @@ fn read_enough(input: &mut [u8], w: Window) -> Seen
         if has_enough(seen) {
             return Seen::At(seen);
         }
-        let read = read_on(input, seen);
+        let read = read_on(stdin, input, seen);
         let Seen::At(more) = read else {
             return Seen::Failed;
         };
@@ -148,36 +144,36 @@ fn read_enough(input: &mut [u8], w: Window) -> Seen
 }
 
 // The window with what decides the next record: as it is, or moved to the buffer's start and read on.
-fn filled(input: &mut [u8], w: Window) -> Seen
+fn filled<R: Read>(stdin: &mut R, input: &mut [u8], w: Window) -> Seen
     ensures { Filled w input.old input.new result }
 {
     if has_enough(w) {
         return Seen::At(w);
     }
     window::to_front(input, w.from, w.until);
-    read_enough(input, window::moved(w))
+    read_enough(stdin, input, window::moved(w))
 }
 
 // ---- output
 
 // The lines up to `place` are written.
-pub fn flushed(out: &[u8], place: usize) -> bool
+pub fn flushed<W: Write>(stdout: &mut W, out: &[u8], place: usize) -> bool
     ensures { Written out.now place result }
 {
     if out.len() < place {
         return false;
     }
-    io::write_all(STDOUT_FILENO, &out[..place])
+    stdout.write_all(&out[..place]).is_ok()
 }
 
 // Where there is room for a line: here, or at the start once what is there is written.
-pub fn with_room(out: &[u8], place: usize) -> Room
+pub fn with_room<W: Write>(stdout: &mut W, out: &[u8], place: usize) -> Room
     ensures { Roomy out.now place result }
 {
     if place <= NEARLY_FULL {
         return Room::At(place);
     }
-    if flushed(out, place) {
+    if flushed(stdout, out, place) {
         return Room::At(0);
     }
     Room::Failed
@@ -185,8 +181,8 @@ pub fn with_room(out: &[u8], place: usize) -> Room
 
 // What failed goes to standard error, where it can. There is nothing to promise: it answers nothing, and writes to nothing
 // that it is lent.
-pub fn complain(what: &[u8]) {
-    io::write_all(STDERR_FILENO, what);
+pub fn complain<W: Write>(stderr: &mut W, what: &[u8]) {
+    let _ = stderr.write_all(what);
 }
 
 // ---- a run
@@ -202,17 +198,23 @@ pub fn is_open(state: State) -> bool
 }
 
 // The next record's bytes are there, and there is room for its line. A state that is not open is handed on.
-pub fn make_ready(state: State, input: &mut [u8], out: &[u8]) -> Ready
+pub fn make_ready<R: Read, W: Write>(
+    stdin: &mut R,
+    stdout: &mut W,
+    state: State,
+    input: &mut [u8],
+    out: &[u8],
+) -> Ready
     ensures { Readied state out.now input.old input.new result }
 {
     let State::Open(given, at) = state else {
         return Ready::Over(state);
     };
-    let drain = with_room(out, at);
+    let drain = with_room(stdout, out, at);
     let Room::At(place) = drain else {
         return Ready::Over(State::Failed(0));
     };
-    let seen = filled(input, given);
+    let seen = filled(stdin, input, given);
     let Seen::At(window) = seen else {
         return Ready::Over(State::Failed(place));
     };

@@ -8,9 +8,9 @@ use pipes::{Ready, State};
 // `reason_next` takes no more than 4,294,967,295 records; the loop goes one further and so ends by itself.
 const MOST_TURNS: u64 = 4_294_967_296;
 
-fn main() {
-    let mut input = io::large_buffer();
-    let mut out = io::large_buffer();
+fn main(rt: HostRuntime) {
+    let mut input = [0u8; 65_536];
+    let mut out = [0u8; 65_536];
     let mut vertices = [0.0f32; 945];
     let mut ids = [0usize; 6000];
     let mut floats = [0.0f32; 6000];
@@ -23,6 +23,7 @@ fn main() {
     let mut n: u64 = 0;
     while n < MOST_TURNS {
         let next = turn(
+            &rt,
             state,
             n + 1,
             &mut input,
@@ -37,17 +38,18 @@ fn main() {
             &mut pending,
         );
         if !pipes::is_open(next) {
-            finish(next, &out);
+            finish(&rt, next, &out);
             return;
         }
         state = next;
         n = n + 1;
     }
-    finish(state, &out);
+    finish(&rt, state, &out);
 }
 
 // The record `number` is run, where there is one.
 fn turn(
+    rt: &HostRuntime,
     state: State,
     number: u64,
     input: &mut [u8],
@@ -61,7 +63,7 @@ fn turn(
     heap_keys: &mut [f32],
     pending: &mut [usize],
 ) -> State {
-    let ready = pipes::make_ready(state, input, out);
+    let ready = pipes::make_ready(&mut rt.stdin(), &mut rt.stdout(), state, input, out);
     match ready {
         Ready::Over(over) => over,
         Ready::Record(window, place) => {
@@ -88,19 +90,19 @@ fn turn(
 }
 
 // All lines that are not written yet.
-fn finish(state: State, out: &[u8]) {
+fn finish(rt: &HostRuntime, state: State, out: &[u8]) {
     match state {
-        State::Open(_, place) => close(out, place),
-        State::Done(place) => close(out, place),
+        State::Open(_, place) => close(rt, out, place),
+        State::Done(place) => close(rt, out, place),
         State::Failed(place) => {
-            pipes::flushed(out, place);
-            pipes::complain(b"reasons: a read or a write failed\n");
+            pipes::flushed(&mut rt.stdout(), out, place);
+            pipes::complain(&mut rt.stderr(), b"reasons: a read or a write failed\n");
         }
     }
 }
 
-fn close(out: &[u8], place: usize) {
-    if !pipes::flushed(out, place) {
-        pipes::complain(b"reasons: a write failed\n");
+fn close(rt: &HostRuntime, out: &[u8], place: usize) {
+    if !pipes::flushed(&mut rt.stdout(), out, place) {
+        pipes::complain(&mut rt.stderr(), b"reasons: a write failed\n");
     }
 }

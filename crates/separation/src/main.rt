@@ -9,9 +9,9 @@ use pipes::{Ready, Room, State};
 // `stream` answers no more than 4,294,967,295 records; the loop goes one further and so ends by itself.
 const MOST_TURNS: u64 = 4_294_967_296;
 
-fn main() {
-    let mut input = io::large_buffer();
-    let mut out = io::large_buffer();
+fn main(rt: HostRuntime) {
+    let mut input = [0u8; 65_536];
+    let mut out = [0u8; 65_536];
     let mut vertices = [0.0f32; 945];
     let mut ids = [0usize; 6000];
     let mut floats = [0.0f32; 6000];
@@ -24,6 +24,7 @@ fn main() {
     let mut n: u64 = 0;
     while n < MOST_TURNS {
         let next = turn(
+            &rt,
             state,
             n + 1,
             &mut input,
@@ -38,13 +39,13 @@ fn main() {
             &mut pending,
         );
         if !pipes::is_open(next) {
-            finish(next, n, &mut out);
+            finish(&rt, next, n, &mut out);
             return;
         }
         state = next;
         n = n + 1;
     }
-    finish(state, n, &mut out);
+    finish(&rt, state, n, &mut out);
 }
 
 // The first line is in the output, and nothing was read.
@@ -58,6 +59,7 @@ fn begun(out: &mut [u8]) -> State {
 
 // The record `number` is answered, where there is one.
 fn turn(
+    rt: &HostRuntime,
     state: State,
     number: u64,
     input: &mut [u8],
@@ -71,7 +73,7 @@ fn turn(
     heap_keys: &mut [f32],
     pending: &mut [usize],
 ) -> State {
-    let ready = pipes::make_ready(state, input, out);
+    let ready = pipes::make_ready(&mut rt.stdin(), &mut rt.stdout(), state, input, out);
     match ready {
         Ready::Over(over) => over,
         Ready::Record(window, place) => {
@@ -98,28 +100,28 @@ fn turn(
 }
 
 // The last line, after n records, and all that is not written yet.
-fn finish(state: State, n: u64, out: &mut [u8]) {
+fn finish(rt: &HostRuntime, state: State, n: u64, out: &mut [u8]) {
     match state {
-        State::Open(_, place) => close(n, out, place),
-        State::Done(place) => close(n, out, place),
+        State::Open(_, place) => close(rt, n, out, place),
+        State::Done(place) => close(rt, n, out, place),
         State::Failed(place) => {
-            pipes::flushed(out, place);
-            pipes::complain(b"separation: a read or a write failed\n");
+            pipes::flushed(&mut rt.stdout(), out, place);
+            pipes::complain(&mut rt.stderr(), b"separation: a read or a write failed\n");
         }
     }
 }
 
-fn close(n: u64, out: &mut [u8], at: usize) {
-    let drain = pipes::with_room(out, at);
+fn close(rt: &HostRuntime, n: u64, out: &mut [u8], at: usize) {
+    let drain = pipes::with_room(&mut rt.stdout(), out, at);
     let Room::At(place) = drain else {
-        pipes::complain(b"separation: a write failed\n");
+        pipes::complain(&mut rt.stderr(), b"separation: a write failed\n");
         return;
     };
     let written = lines::write_last(out, place, n);
     let Placed::Next(end) = written else {
         return;
     };
-    if !pipes::flushed(out, end) {
-        pipes::complain(b"separation: a write failed\n");
+    if !pipes::flushed(&mut rt.stdout(), out, end) {
+        pipes::complain(&mut rt.stderr(), b"separation: a write failed\n");
     }
 }

@@ -1,4 +1,4 @@
-use Rattle.std.proofs.Common.{◌-◌, rules}
+use Rattle.std.proofs.Common.{◌-◌}
 use Rattle.calls.proofs.answer_block.Given as goal
 
 abbrev pub invariant-loop-from : goal.invariant-loop-from

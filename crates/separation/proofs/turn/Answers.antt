@@ -1,12 +1,10 @@
--- `turn` is safe: the window's part of the input is within it, and the slices keep their lengths. Assumes nothing.
-use mathlib.Core.Path.{sym}
-use lib.Seq.{length-take-le}
-use borrow.Author.Rules.{rules}
+-- `turn` is safe: the window's part of the input is within it. Assumes nothing.
+use Rattle.std.proofs.Common.{sym, length-take-le}
 use Rattle.pipes.proofs.Reading.{answerable}
 use Rattle.separation.proofs.turn.Goals as goal
 
 pub slice_bounds-answer_next-end : goal.slice_bounds-answer_next-end
-slice_bounds-answer_next-end c = let m : tie.After-make-ready = search in (answerable _ m.make_ready-ready.result m.make_ready-ready.ensures c.in-Record.is).within
+slice_bounds-answer_next-end c = (answerable _ c.make_ready-ready.result c.make_ready-ready.ensures c.in-Record.is).within
 
 pub slice_bounds-answer_next-end-in-Record : goal.slice_bounds-answer_next-end-in-Record
-slice_bounds-answer_next-end-in-Record c = sym (length-take-le _ _ (slice-reshare-prefix-answer-next c))
+slice_bounds-answer_next-end-in-Record c = sym (length-take-le _ _ (answerable _ c.make_ready-ready.result c.make_ready-ready.ensures c.in-Record.is).within)

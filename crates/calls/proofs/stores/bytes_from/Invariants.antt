@@ -1,4 +1,4 @@
-use Rattle.std.proofs.Common.{◌≡◌, ◌-◌, ◌≤◌, length, sym, arith, length-take-le, rules}
+use Rattle.std.proofs.Common.{◌≡◌, ◌-◌, ◌≤◌, length}
 use Rattle.calls.proofs.stores.bytes_from.Given as goal
 
 abbrev pub invariant-loop-k : goal.invariant-loop-k
