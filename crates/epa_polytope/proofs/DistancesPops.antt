@@ -12,7 +12,8 @@ use lib.Ieee.{Float, le, neg}
 use Rattle.number.proofs.Order.{lt-neg-neg, neg-not-nan, lt_irrefl, not-less-trans, le-of-not-less}
 use Rattle.heap.specs.Heap.{Heap, Entry, entry_at, pushed, popped}
 use Rattle.heap.specs.Ordered.{key_at, Held, NotNan, AtMost, Ordered}
-use Rattle.heap.proofs.Ordered.{pushed-held, popped-held, pushed-ordered, popped-ordered, first-greatest}
+use Rattle.heap.proofs.Rising.{pushed-held, popped-held}
+use Rattle.heap.proofs.Ordered.{pushed-ordered, popped-ordered, first-greatest}
 use Rattle.epa_polytope.specs.Stores.{State, heap_of, deleted_at}
 use Rattle.epa_polytope.specs.Steps.{End, Out, onward, ended, next, ◌>>=◌, ◌>>◌, pure, look, put, branch}
 use Rattle.epa_polytope.specs.Start.{World}

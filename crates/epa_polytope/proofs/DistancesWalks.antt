@@ -14,7 +14,8 @@ use Rattle.vector.specs.Vector.{zero_f, dot_v}
 use Rattle.shape.specs.declared.vertex.Vertex.{Vertex}
 use Rattle.heap.specs.Heap.{Heap, Entry, entry, pushed}
 use Rattle.heap.specs.Ordered.{Held, NotNan, AtMost, Ordered}
-use Rattle.heap.proofs.Ordered.{pushed-held, pushed-ordered}
+use Rattle.heap.proofs.Rising.{pushed-held}
+use Rattle.heap.proofs.Ordered.{pushed-ordered}
 use Rattle.heap.proofs.Multiset.{not-nan-before}
 use Rattle.epa_polytope.specs.Stores.{State, Lists, Made, Three, state_of, none_yet, room_for, the_heap, heap_of, vertex_at, normal_at, point_at, corner_at}
 use Rattle.epa_polytope.specs.Silhouette.{WalkAnswer, Done, NoRoom}
