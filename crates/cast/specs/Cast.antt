@@ -17,18 +17,14 @@ use Rattle.shape.specs.Vertex.{single_point, translate_vertex}
 use Rattle.shape.specs.Support.{from_shapes}
 use Rattle.simplex.specs.declared.voronoi_simplex.VoronoiSimplex.{VoronoiSimplex}
 use Rattle.simplex.specs.declared.operations.Answer.{Answer}
-use Rattle.simplex.specs.declared.operations.Answer.TheVariants as Answer
 use Rattle.simplex.specs.Simplex.{new_simplex}
 use Rattle.simplex.specs.Operations.{reset_simplex, add_point, modify_pnts}
 use Rattle.reduction.specs.declared.location.Projected.{Projected}
-use Rattle.reduction.specs.declared.location.Projected.TheVariants as Projected
 use Rattle.reduction.specs.Reduction.{project_origin_and_reduce}
 use Rattle.witnesses.specs.declared.Witnesses.{Witnesses}
-use Rattle.witnesses.specs.declared.Witnesses.TheVariants as Witnesses
 use Rattle.witnesses.specs.Witnesses.{result_of}
 use Rattle.cast.specs.declared.ray.Ray.{Ray}
 use Rattle.cast.specs.declared.ray.MaybeTime.{MaybeTime}
-use Rattle.cast.specs.declared.ray.MaybeTime.TheVariants as MaybeTime
 use Rattle.cast.specs.declared.rounds.Cast.{Cast}
 use Rattle.cast.specs.declared.rounds.Cast.TheVariants.{Impact, Miss, Refused}
 use Rattle.cast.specs.declared.rounds.Query.{Query}

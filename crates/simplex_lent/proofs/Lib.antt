@@ -1,2 +1,2 @@
--- What the walks by hand of this crate share.
+-- What walks by hand share. No proof of this crate walks by hand now, so none cites it.
 mod Clauses

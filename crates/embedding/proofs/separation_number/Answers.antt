@@ -3,6 +3,7 @@ use mathlib.Core.Path.{◌≡◌}
 use Prim.Native.Nat.{ℕ}
 use mathlib.Core.Logic.{◌⊎◌, inl, inr}
 use borrow.Author.Tests.{ne_eqb}
+use native.Mathlib.Omega.{arith}
 use Rattle.answers.specs.Answers.{number_of}
 use Rattle.embedding.proofs.separation_number.Goals as goal
 
@@ -17,19 +18,9 @@ of-answers x (inr (inl e)) = rw e
 of-answers x (inr (inr (inl e))) = rw e
 of-answers x (inr (inr (inr e))) = rw e
 
-of_others : (x : ℕ) → (Answers x → ⊥) → (x ≡ 78 → ⊥) → (x ≡ 88 → ⊥) → (x ≡ 82 → ⊥) → (x ≡ 66 → ⊥) → 5 ≡ number_of x
+of_others : (x : ℕ) → (x ≡ 68 → ⊥) → (x ≡ 77 → ⊥) → (x ≡ 80 → ⊥) → (x ≡ 83 → ⊥) → (x ≡ 78 → ⊥) → (x ≡ 88 → ⊥) → (x ≡ 82 → ⊥) → (x ≡ 66 → ⊥) → 5 ≡ number_of x
 unfolding number_of
-of_others x letter n p r b =
-    simp (
-      ne_eqb x 68 (λ e. letter (inl e)),
-      ne_eqb x 77 (λ e. letter (inr (inl e))),
-      ne_eqb x 80 (λ e. letter (inr (inr (inl e)))),
-      ne_eqb x 83 (λ e. letter (inr (inr (inr e)))),
-      ne_eqb x 78 n,
-      ne_eqb x 88 p,
-      ne_eqb x 82 r,
-      ne_eqb x 66 b,
-    )
+of_others x d m p s n x' r b = simp (ne_eqb x 68 d, ne_eqb x 77 m, ne_eqb x 80 p, ne_eqb x 83 s, ne_eqb x 78 n, ne_eqb x 88 x', ne_eqb x 82 r, ne_eqb x 66 b)
 
 pub returns-in-68 : goal.returns-in-68
 returns-in-68 c = of-answers _ c.in-68.is
@@ -51,4 +42,5 @@ unfolding number_of
 returns-in-66 c = rw c.in-66.is
 
 pub returns-in_default : goal.returns-in_default
-returns-in_default c = let none = c.in-68.rest in of_others _ none.0.0.0.0.1 none.0.0.0.1 none.0.0.1 none.0.1 none.1
+returns-in_default c =
+    of_others c.args.outcome (λ e. grind arith) (λ e. grind arith) (λ e. grind arith) (λ e. grind arith) (λ e. omega arith) (λ e. omega arith) (λ e. omega arith) (λ e. omega arith)

@@ -1,19 +1,11 @@
 -- `run_row` answers what the run on the row's first places does, and hands the row back with what it left there (`row_back`). Assumes nothing.
+use Prim.Native.Nat.{◌*◌}
 use mathlib.Core.Path.{refl}
-use borrow.Author.Rules.{rules}
-use Rattle.epa_polytope.proofs.Doing.{place}
-use Rattle.epa_lent.proofs.Lent.{pairs-there, pairs-lent, row_back}
+use lib.ListN.{drop}
+use Rattle.epa_lent.proofs.Lent.{row_back}
 use Rattle.epa_lent.proofs.run_row.Goals as goal
 
-pub slice_bounds-pairs-end : goal.slice_bounds-pairs-end
-slice_bounds-pairs-end c = let start = place tie.Start (search) in pairs-there start.args.row start.pre
-
-pub slice_bounds-closest_points_plain-end : goal.slice_bounds-closest_points_plain-end
-slice_bounds-closest_points_plain-end c = let start = place tie.Start (search) in pairs-lent start.args.row start.pre
-
 pub returns : goal.returns
-returns c = (
-  row_back c.args.row _ _ c.pre c.closest_points_plain-answer.kept.1.1.1.1.1.1.1.1.0
-      c.closest_points_plain-answer.ensures.answer,
-  refl,
-)
+returns c =
+    let ran = c.closest_points_plain-answer in
+    (row_back c.args.row ran.new.edges (drop (c.args.row.n * 2) c.args.row.pairs) c.requires ran.auto.edges ran.ensures.answer, refl)

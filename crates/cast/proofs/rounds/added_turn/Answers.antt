@@ -1,5 +1,4 @@
 -- `added_turn` returns `added`.
-use borrow.Author.Rules.{rules}
 use Rattle.cast.specs.Cast.{added}
 use Rattle.cast.proofs.rounds.added_turn.Goals as goal
 

@@ -1,5 +1,4 @@
 -- `clipped_turn` returns `clipped`.
-use borrow.Author.Rules.{rules}
 use lib.Ieee.{of_bits}
 use Rattle.cast.specs.Cast.{clipped}
 use Rattle.cast.proofs.rounds.clipped_turn.Goals as goal

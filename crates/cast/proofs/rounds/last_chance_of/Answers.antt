@@ -1,5 +1,4 @@
 -- `last_chance_of` returns `last_chance`.
-use borrow.Author.Rules.{rules}
 use Rattle.cast.specs.Cast.{last_chance}
 use Rattle.cast.proofs.rounds.last_chance_of.Goals as goal
 

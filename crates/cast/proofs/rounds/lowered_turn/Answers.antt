@@ -1,5 +1,4 @@
 -- `lowered_turn` returns `lowered`.
-use borrow.Author.Rules.{rules}
 use Rattle.cast.specs.Cast.{lowered}
 use Rattle.cast.proofs.rounds.lowered_turn.Goals as goal
 

@@ -1,6 +1,4 @@
 -- `minkowski_ray_cast` returns `minkowski_ray_cast`, and has its number and values.
-use Rattle.std.proofs.Common.{ap}
-use borrow.Author.Rules.{rules}
 use Rattle.number.proofs.Told.{told}
 use Rattle.cast.specs.Cast.{after, minkowski_ray_cast}
 use Rattle.cast.proofs.rounds.minkowski_ray_cast.Goals as goal
@@ -17,7 +15,7 @@ unfolding minkowski_ray_cast after
 returns-in-Ended-clause-answer c =
     let at = c in
     let first = at in
-    (simp (← first.length-ray_length.ensures, ← first.is_zero.ensures, ← at.eps_rel.ensures, ← at.start_of_lem.ensures, at.if-is_zero.false, c.in-Ended.is))
+    (simp (← first.length-ray_length.ensures, ← first.is_zero.ensures, ← at.eps_rel.ensures, ← at.start_of-start.ensures, at.if-is_zero.false, c.in-Ended.is))
 
 pub returns-in-Ended-clause-told : goal.returns-in-Ended-clause-told
 returns-in-Ended-clause-told c = told ((returns-in-Ended-clause-answer c))
@@ -27,7 +25,7 @@ unfolding minkowski_ray_cast after
 returns-in-Onward-clause-answer c =
     let at = c in
     let first = at in
-    (simp (← first.length-ray_length.ensures, ← first.is_zero.ensures, ← at.eps_rel.ensures, ← at.start_of_lem.ensures, ← c.run_of.ensures, at.if-is_zero.false, c.in-Onward.is))
+    (simp (← first.length-ray_length.ensures, ← first.is_zero.ensures, ← at.eps_rel.ensures, ← at.start_of-start.ensures, ← c.run_of.ensures, at.if-is_zero.false, c.in-Onward.is))
 
 pub returns-in-Onward-clause-told : goal.returns-in-Onward-clause-told
 returns-in-Onward-clause-told c = told ((returns-in-Onward-clause-answer c))

@@ -1,5 +1,4 @@
 -- `probed_turn` returns `probed`.
-use borrow.Author.Rules.{rules}
 use lib.Ieee.{of_bits}
 use Rattle.cast.specs.Cast.{probed}
 use Rattle.cast.proofs.rounds.probed_turn.Goals as goal

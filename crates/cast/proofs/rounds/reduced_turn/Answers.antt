@@ -1,5 +1,4 @@
 -- `reduced_turn` returns `reduced`.
-use borrow.Author.Rules.{rules}
 use borrow.Author.Tests.{eq-eqb, ne_eqb}
 use Rattle.cast.specs.Cast.{reduced}
 use Rattle.reduction.proofs.Fits.{both-in-turn}

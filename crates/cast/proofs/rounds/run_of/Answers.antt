@@ -2,25 +2,24 @@
 use Prim.Native.Nat.{ℕ, suc, ◌+◌, ◌-◌, ◌<◌, ◌≤◌}
 use mathlib.Core.Path.{◌≡◌, ◌∙◌, sym, refl}
 use native.Mathlib.Omega.{arith}
-use borrow.Author.Rules.{rules}
 use lib.Ieee.{binary32}
 use Rattle.simplex.specs.declared.voronoi_simplex.VoronoiSimplex.{VoronoiSimplex}
 use Rattle.cast.specs.declared.rounds.Cast.{Cast}
 use Rattle.cast.specs.declared.rounds.Round.{Round}
 use Rattle.cast.specs.declared.rounds.Next.TheVariants.{Onward, Ended}
 use Rattle.cast.specs.declared.rounds.Turn.{Turn}
-use Rattle.cast.specs.Cast.{Search, search_of, turn_of, after, run_of}
+use Rattle.cast.specs.Cast.{Search, turn_of, after, run_of}
 use Rattle.cast.proofs.rounds.run_of.Goals as goal
 
 left : (i : ℕ) → i < 100 → 100 - i ≡ suc (100 - (i + 1))
 left i h = omega arith
 
 -- a turn that goes on leaves one round less, and one that ends is the cast's end
-goes_on : (k : Search) (i : ℕ) (s : VoronoiSimplex) (r q : Round) (t : Turn) → i < 100 → t ≡ turn_of binary32 k s r → t.next-1 ≡ Onward q → run_of binary32 k (100 - (i + 1)) t.simplex q ≡ run_of binary32 k (100 - i) s r
+goes_on : (k : Search) (i : ℕ) (s : VoronoiSimplex) (r q : Round) (t : Turn) → i < 100 → t ≡ turn_of binary32 k s r → t.next ≡ Onward q → run_of binary32 k (100 - (i + 1)) t.simplex q ≡ run_of binary32 k (100 - i) s r
 unfolding run_of after
 goes_on k i s r q t h e d = rw (left i h, ← e, d)
 
-ends : (k : Search) (i : ℕ) (s : VoronoiSimplex) (r : Round) (t : Turn) (x : Cast) → i < 100 → t ≡ turn_of binary32 k s r → t.next-1 ≡ Ended x → x ≡ run_of binary32 k (100 - i) s r
+ends : (k : Search) (i : ℕ) (s : VoronoiSimplex) (r : Round) (t : Turn) (x : Cast) → i < 100 → t ≡ turn_of binary32 k s r → t.next ≡ Ended x → x ≡ run_of binary32 k (100 - i) s r
 unfolding run_of after
 ends k i s r t x h e d = rw (left i h, ← e, d)
 

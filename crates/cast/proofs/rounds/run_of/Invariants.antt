@@ -1,14 +1,7 @@
-use Prim.Native.Nat.{ℕ, suc, ◌+◌, ◌-◌, ◌<◌, ◌≤◌}
-use mathlib.Core.Path.{◌≡◌, ◌∙◌, sym, refl}
-use native.Mathlib.Omega.{arith}
-use borrow.Author.Rules.{rules}
+use Prim.Native.Nat.{◌-◌, ◌≤◌}
+use mathlib.Core.Path.{◌≡◌}
 use lib.Ieee.{binary32}
-use Rattle.simplex.specs.declared.voronoi_simplex.VoronoiSimplex.{VoronoiSimplex}
-use Rattle.cast.specs.declared.rounds.Cast.{Cast}
-use Rattle.cast.specs.declared.rounds.Round.{Round}
-use Rattle.cast.specs.declared.rounds.Next.TheVariants.{Onward, Ended}
-use Rattle.cast.specs.declared.rounds.Turn.{Turn}
-use Rattle.cast.specs.Cast.{Search, search_of, turn_of, after, run_of}
+use Rattle.cast.specs.Cast.{search_of, run_of}
 use Rattle.cast.proofs.rounds.run_of.Given as goal
 
 abbrev pub invariant-loop-niter : goal.invariant-loop-niter

@@ -1,5 +1,4 @@
 -- `start_of` returns `start_of`.
-use borrow.Author.Rules.{rules}
 use lib.Ieee.{of_bits}
 use Rattle.cast.specs.Cast.{start_of}
 use Rattle.reduction.proofs.Fits.{both-in-turn}

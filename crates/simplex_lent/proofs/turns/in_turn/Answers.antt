@@ -1,5 +1,4 @@
 -- `in_turn` returns what `project_origin_and_reduce` does: the two operations in turn are the reduction.
-use borrow.Author.Rules.{rules}
 use Rattle.reduction.proofs.Fits.{both-in-turn}
 use Rattle.simplex_lent.proofs.turns.in_turn.Goals as goal
 
@@ -14,4 +13,4 @@ returns c =
     let found = c.project_origin-projection.ensures.answer in
     let at = c.in-At.is in
     let applied = c.apply_location-applied.ensures.answer in
-    (simp (both-in-turn, ← found, ← applied, at), simp (both-in-turn, ← found, ← applied, at))
+    (simp (both-in-turn, ← found, ← applied, at), simp (both-in-turn, ← found, at))
