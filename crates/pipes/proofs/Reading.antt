@@ -4,7 +4,7 @@ use Prim.Native.Nat.{ℕ, ◌+◌, ◌-◌, ◌≤◌, ◌<◌}
 use mathlib.Core.Path.{◌≡◌, refl, sym, ap, subst, ◌∙◌}
 use mathlib.Core.List.{List, [], ◌∷◌, ◌++◌}
 use mathlib.Core.Bool.{Bool, true, false, cond}
-use mathlib.Core.Logic.{◌⊎◌, inl, inr, ⊎_elim}
+use mathlib.Core.Logic.{inl, inr, ⊎_elim}
 use native.Mathlib.Omega.{arith}
 use lib.Dec.{leb, ltb}
 use lib.ListN.{length, take}
@@ -17,15 +17,10 @@ use Rattle.window.specs.declared.Window.{Window}
 use Rattle.window.specs.Window.{rest_of, moved_of, front_of}
 use Rattle.pipes.specs.Pipes.{enough_of, Kept, Brought, Grown, ReadOn, Ample, Read, Filled, Roomy, is_open, ready_of, FilledIn, Begun, Readied, Answerable}
 use Rattle.pipes.specs.declared.Got.{Got}
-use Rattle.pipes.specs.declared.Got.TheVariants as Got
 use Rattle.pipes.specs.declared.Seen.{Seen}
-use Rattle.pipes.specs.declared.Seen.TheVariants as Seen
 use Rattle.pipes.specs.declared.Room.{Room}
-use Rattle.pipes.specs.declared.Room.TheVariants as Room
 use Rattle.pipes.specs.declared.State.{State}
-use Rattle.pipes.specs.declared.State.TheVariants as State
 use Rattle.pipes.specs.declared.Ready.{Ready}
-use Rattle.pipes.specs.declared.Ready.TheVariants as Ready
 
 -- what is known of an answer, once it is known which it is
 pub brought-until : (at : ℕ) (g : Got) → Brought at g → {n : ℕ} → g ≡ Got.Until n → at < n

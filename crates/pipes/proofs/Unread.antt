@@ -13,13 +13,9 @@ use Rattle.window.specs.declared.Window.{Window}
 use Rattle.window.specs.Window.{offset_of, rest_of, front_of}
 use Rattle.pipes.specs.Pipes.{enough_of, Filled, is_open, ready_of, FilledIn, Begun, Readied}
 use Rattle.pipes.specs.declared.Seen.{Seen}
-use Rattle.pipes.specs.declared.Seen.TheVariants as Seen
 use Rattle.pipes.specs.declared.Room.{Room}
-use Rattle.pipes.specs.declared.Room.TheVariants as Room
 use Rattle.pipes.specs.declared.State.{State}
-use Rattle.pipes.specs.declared.State.TheVariants as State
 use Rattle.pipes.specs.declared.Ready.{Ready}
-use Rattle.pipes.specs.declared.Ready.TheVariants as Ready
 use Rattle.pipes.proofs.Reading.{found}
 
 -- ---- a window that was filled

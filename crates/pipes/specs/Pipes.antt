@@ -2,18 +2,12 @@
 use Rattle.std.specs.Prelude.{◌≡◌, List, Bool, true, false, cond, ◌⊎◌, ℕ, ◌+◌, ◌<◌, ◌≤◌, ltb, leb, length, take}
 use Rattle.window.specs.declared.Window.{Window}
 use Rattle.window.specs.declared.Turn.{Turn}
-use Rattle.window.specs.declared.Turn.TheVariants as Turn
 use Rattle.window.specs.Window.{rest_of, moved_of, front_of}
 use Rattle.pipes.specs.declared.Got.{Got}
-use Rattle.pipes.specs.declared.Got.TheVariants as Got
 use Rattle.pipes.specs.declared.Seen.{Seen}
-use Rattle.pipes.specs.declared.Seen.TheVariants as Seen
 use Rattle.pipes.specs.declared.Room.{Room}
-use Rattle.pipes.specs.declared.Room.TheVariants as Room
 use Rattle.pipes.specs.declared.State.{State}
-use Rattle.pipes.specs.declared.State.TheVariants as State
 use Rattle.pipes.specs.declared.Ready.{Ready}
-use Rattle.pipes.specs.declared.Ready.TheVariants as Ready
 
 -- ---- input
 
