@@ -12,7 +12,6 @@ use Rattle.epa_polytope.specs.Stores.{Lists}
 use Rattle.epa_polytope.specs.Same.{Equivalent}
 use Rattle.epa_polytope.specs.declared.types.Store.{Store}
 use Rattle.epa_polytope.specs.declared.types.End.{End}
-use Rattle.epa_polytope.specs.declared.types.End.TheVariants.{NoRoom}
 use Rattle.epa_polytope.specs.declared.types.Walk.TheVariants.{Plain as plain}
 use Rattle.epa.specs.declared.types.Answer as Epa
 use Rattle.epa.specs.Final.{Final, answered, penetration}

@@ -1,6 +1,6 @@
 -- The channel's answer and lists, by GJK's result: the polytope's run where the shapes meet (`meets`), and the lists as they were lent where they do not (`apart`). Any format.
 -- By rewriting with what the callees answered. Assumes nothing.
-use mathlib.Core.Path.{◌≡◌, refl, sym, ap, ◌∙◌}
+use mathlib.Core.Path.{◌≡◌, sym, ap, ◌∙◌}
 use mathlib.Core.Bool.{Bool}
 use lib.Ieee.{Float, Format}
 use Rattle.vector.specs.declared.vec3.Vec3.{Vec3}

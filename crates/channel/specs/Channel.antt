@@ -10,7 +10,6 @@ use Rattle.simplex.specs.declared.voronoi_simplex.VoronoiSimplex.{VoronoiSimplex
 use Rattle.simplex.specs.Simplex.{new_simplex}
 use Rattle.simplex.specs.Operations.{reset_simplex}
 use Rattle.gjk.specs.declared.rounds.GJKResult.{GJKResult}
-use Rattle.gjk.specs.declared.rounds.GJKResult.TheVariants as GJKResult
 use Rattle.gjk.specs.declared.rounds.Gjk.{Gjk}
 use Rattle.gjk.specs.Gjk.{closest_points}
 use Rattle.epa_polytope.specs.Stores.{Lists}
@@ -18,7 +17,6 @@ use Rattle.epa_polytope.specs.declared.types.Walk.TheVariants.{Plain as plain}
 use Rattle.epa.specs.Final.{Final, final, answered, penetration}
 use Rattle.lines.specs.declared.line.Counts.{Counts}
 use Rattle.lines.specs.declared.line.Outcome.{Outcome}
-use Rattle.lines.specs.declared.line.Outcome.TheVariants as Outcome
 use Rattle.outcome.specs.Outcome.{outcome_of}
 
 -- a new simplex, reset to the support point of the start direction

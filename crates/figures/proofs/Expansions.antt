@@ -1,9 +1,6 @@
 -- DEMAND 3 of a campaign: the outcome of any record carries at most 101 expansions (`record-few`), so that no sum of a campaign wraps. Any format. Assumes nothing.
-use Rattle.std.proofs.Common.{◌≤◌, Bool, arith}
-use lib.Ieee.{Float, Format}
-use Rattle.vector.specs.declared.vec3.Vec3.{Vec3}
-use Rattle.vector.specs.declared.pose.Pose.{Pose}
-use Rattle.shape.specs.declared.support.Shape.{Shape}
+use Rattle.std.proofs.Common.{◌≤◌, arith}
+use lib.Ieee.{Format}
 use Rattle.gjk.specs.declared.rounds.GJKResult.{GJKResult}
 use Rattle.gjk.specs.declared.rounds.GJKResult.TheVariants.{Intersection, ClosestPoints, Proximity, NoIntersection, Refused}
 use Rattle.epa_polytope.specs.Stores.{Lists}

@@ -1,5 +1,5 @@
 -- THE FIGURES ARE A FOLD over the outcomes, one record after the other (`one-more-record`). Assumes nothing.
-use Rattle.std.proofs.Common.{◌≡◌, ℕ, ◌+◌, List, [], ◌∷◌, ◌++◌, length, refl, ap, ◌∙◌, add-zero, arith}
+use Rattle.std.proofs.Common.{◌≡◌, ℕ, ◌+◌, List, [], ◌∷◌, ◌++◌, length, ap, ◌∙◌, arith}
 use Rattle.lines.specs.declared.line.Outcome.{Outcome}
 use Rattle.figures.specs.declared.sums.Figures.{Figures}
 use Rattle.figures.specs.Figures.{after_outcome, figures_from, figures_of}

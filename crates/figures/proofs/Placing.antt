@@ -1,5 +1,5 @@
 -- Text that found its place in a slice (`placed-put`), and how long the lines of a campaign are. Assumes nothing.
-use Rattle.std.proofs.Common.{◌≡◌, ℕ, ◌+◌, ◌≤◌, List, [], ◌∷◌, length, refl, ap, ◌∙◌, arith, length-append, le-leb}
+use Rattle.std.proofs.Common.{◌≡◌, ℕ, ◌+◌, ◌≤◌, List, length, ap, ◌∙◌, arith, length-append, le-leb}
 use lib.Seq.{sets}
 use Rattle.lines.specs.declared.text.Placed.{Placed}
 use Rattle.lines.specs.declared.text.Placed.TheVariants.{Next}

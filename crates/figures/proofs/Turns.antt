@@ -8,12 +8,11 @@ use Rattle.casefile.specs.declared.records.CaseAnswer.{CaseAnswer}
 use Rattle.casefile.specs.Records.{read_case}
 use Rattle.lines.specs.declared.line.Outcome.{Outcome}
 use Rattle.epa_polytope.specs.Stores.{Lists}
-use Rattle.epa.specs.Final.{Final, final, answered}
+use Rattle.epa.specs.Final.{final, answered}
 use Rattle.window.specs.Window.{offset_of}
 use Rattle.stream.specs.Reading.{most_records}
 use Rattle.stream.specs.Stream.{case_outcome}
 use Rattle.figures.specs.declared.sums.Figures.{Figures}
-use Rattle.figures.specs.declared.turn.Reckoned.{Reckoned}
 use Rattle.figures.specs.declared.turn.Reckoned.TheVariants.{Counted, End, Malformed, TooMany}
 use Rattle.figures.specs.Figures.{after_outcome}
 use Rattle.figures.specs.Reckoning.{reckon_by, reckon_of, reckoned_number}

@@ -1,6 +1,6 @@
 -- A turn on a window of the file is the turn on the whole file (`window-reckoned`), where the window holds the file's rest, or 160 bytes from the record's place on. By the laws of
 -- `stream`: the window's record is the file's. Assumes nothing.
-use Rattle.std.proofs.Common.{◌≡◌, ℕ, ◌+◌, ◌≤◌, Bool, true, false, cond, ltb, leb, List, [], ◌++◌, length, sym, refl, ap, ◌∙◌, ⊎_elim, append-nil, arith, length-append, le-leb, leb-false, leb-true}
+use Rattle.std.proofs.Common.{◌≡◌, ℕ, ◌+◌, Bool, true, false, cond, ltb, leb, List, [], ◌++◌, length, refl, ap, ◌∙◌, ⊎_elim, arith, length-append, le-leb, leb-false, leb-true}
 use lib.Ieee.{Format}
 use borrow.Author.Tests.{lt-leb}
 use Rattle.casefile.specs.declared.records.CaseAnswer.{CaseAnswer}

@@ -1,7 +1,6 @@
 -- The lines of a campaign, as lists of bytes (document 02, ticket 11). Definitions only.
 use Rattle.std.specs.Prelude.{ℕ, List, [], ◌∷◌, ◌++◌}
 use Rattle.lines.specs.declared.text.Placed.{Placed}
-use Rattle.lines.specs.declared.text.Placed.TheVariants as Placed
 use Rattle.lines.specs.Text.{decimal_of}
 use Rattle.lines.specs.Lines.{bad_line}
 use Rattle.figures.specs.declared.sums.Letters.{Letters}

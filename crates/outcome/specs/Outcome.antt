@@ -1,11 +1,9 @@
 -- A run of the polytope, told as the outcome of a record (document 01, "What the channel computes"). Definitions only.
 use Rattle.epa_polytope.specs.declared.types.End.{End}
-use Rattle.epa_polytope.specs.declared.types.End.TheVariants as End
 use Rattle.epa.specs.declared.types.Answer.{Answer}
 use Rattle.epa.specs.declared.types.Counts as Epa
 use Rattle.lines.specs.declared.line.Counts.{Counts}
 use Rattle.lines.specs.declared.line.Outcome.{Outcome}
-use Rattle.lines.specs.declared.line.Outcome.TheVariants as Outcome
 
 abbrev pub counts_of : Epa.Counts → Counts
 counts_of c = record { expansions = c.expansions; made = c.faces_made; live = c.faces_live; edges = c.most_edges; missed = c.missed }

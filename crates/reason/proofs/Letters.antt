@@ -12,7 +12,6 @@ use Rattle.gjk.specs.declared.rounds.GJKResult.{GJKResult}
 use Rattle.gjk.specs.declared.rounds.GJKResult.TheVariants.{Intersection, ClosestPoints, Proximity, NoIntersection, Refused}
 use Rattle.epa_polytope.specs.Stores.{Lists}
 use Rattle.epa_polytope.specs.declared.types.End.{End}
-use Rattle.epa_polytope.specs.declared.types.End.TheVariants as End
 use Rattle.epa_polytope.specs.declared.types.Found.TheVariants as Found
 use Rattle.epa_polytope.specs.declared.types.Lost.TheVariants as Lost
 use Rattle.epa_polytope.specs.declared.types.Walk.TheVariants.{Plain as plain}

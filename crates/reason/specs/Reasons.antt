@@ -1,12 +1,8 @@
 -- Why a run of the polytope ended: the branch of its definition by which it did (document 02, ticket 5). Definitions only.
 use Rattle.epa_polytope.specs.declared.types.End.{End}
-use Rattle.epa_polytope.specs.declared.types.End.TheVariants as End
 use Rattle.epa_polytope.specs.declared.types.Found.{Found}
-use Rattle.epa_polytope.specs.declared.types.Found.TheVariants as Found
 use Rattle.epa_polytope.specs.declared.types.Lost.{Lost}
-use Rattle.epa_polytope.specs.declared.types.Lost.TheVariants as Lost
 use Rattle.reason.specs.declared.reasons.Reason.{Reason}
-use Rattle.reason.specs.declared.reasons.Reason.TheVariants as Reason
 
 abbrev pub found_reason : Found → Reason
 found_reason Found.SinglePoint = Reason.DegenerateStart

@@ -5,7 +5,6 @@ use Rattle.vector.specs.declared.vec3.Vec3.{Vec3}
 use Rattle.vector.specs.declared.pose.Pose.{Pose}
 use Rattle.shape.specs.declared.support.Shape.{Shape}
 use Rattle.gjk.specs.declared.rounds.GJKResult.{GJKResult}
-use Rattle.gjk.specs.declared.rounds.GJKResult.TheVariants as GJKResult
 use Rattle.gjk.specs.declared.rounds.Gjk.{Gjk}
 use Rattle.epa_polytope.specs.Stores.{Lists}
 use Rattle.epa_polytope.specs.declared.types.Walk.TheVariants.{Plain as plain}
@@ -15,7 +14,6 @@ use Rattle.casefile.specs.declared.records.Case.{Case}
 use Rattle.channel.specs.Channel.{distance}
 use Rattle.stream.specs.Reading.{Told, Answering, turn_with}
 use Rattle.reason.specs.declared.words.MaybeReason.{MaybeReason}
-use Rattle.reason.specs.declared.words.MaybeReason.TheVariants as MaybeReason
 use Rattle.reason.specs.Reasons.{reason_of}
 use Rattle.reason.specs.Words.{reason_placed}
 

@@ -3,9 +3,7 @@ use Rattle.std.specs.Prelude.{ℕ, List, [], ◌∷◌, ◌++◌}
 use Rattle.lines.specs.Text.{After, after, place_of, decimal_of}
 use Rattle.lines.specs.declared.text.Placed.TheVariants as Placed
 use Rattle.reason.specs.declared.reasons.Reason.{Reason}
-use Rattle.reason.specs.declared.reasons.Reason.TheVariants as Reason
 use Rattle.reason.specs.declared.words.MaybeReason.{MaybeReason}
-use Rattle.reason.specs.declared.words.MaybeReason.TheVariants as MaybeReason
 
 unfoldable pub words_of : Reason → List ℕ
 -- `panic site`

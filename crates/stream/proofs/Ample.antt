@@ -5,7 +5,6 @@ use Prim.Native.Nat.{ℕ, ◌≤◌}
 use lib.Ieee.{Format}
 use borrow.Author.Tests.{le-ltb}
 use Rattle.casefile.specs.declared.records.Case.{Case}
-use Rattle.casefile.specs.declared.records.CaseAnswer.{CaseAnswer}
 use Rattle.casefile.specs.declared.records.CaseAnswer.TheVariants.{Whole}
 use Rattle.casefile.specs.Records.{read_case}
 use Rattle.lines.specs.declared.line.Outcome.{Outcome}

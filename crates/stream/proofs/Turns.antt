@@ -16,11 +16,9 @@ use Rattle.lines.specs.Lines.{line_of, bad_line}
 use Rattle.epa_polytope.specs.Stores.{Lists}
 use Rattle.epa.specs.Final.{final, answered}
 use Rattle.window.specs.declared.Turn.{Turn}
-use Rattle.window.specs.declared.Turn.TheVariants as Turn
 use Rattle.window.specs.Window.{offset_of, line_turn, bad_turn}
 use Rattle.stream.specs.declared.Next.{Next}
-use Rattle.stream.specs.declared.Next.TheVariants as Next
-use Rattle.stream.specs.Reading.{Told, told, line_told, bad_told, Read, read, over, read_by, most_records, read_next, Answering, turn_at, turn_by, turn_with}
+use Rattle.stream.specs.Reading.{told, line_told, bad_told, Read, read, over, read_by, most_records, read_next, Answering, turn_at, turn_by, turn_with}
 use Rattle.stream.specs.Stream.{case_outcome, line_for}
 
 module _ (f : Format) (s : List ℕ) (at base number : ℕ) (o : List ℕ) (place : ℕ) where

@@ -20,10 +20,8 @@ use Rattle.lines.specs.Lines.{bad_line}
 use Rattle.epa_polytope.specs.Stores.{Lists}
 use Rattle.epa.specs.Final.{final, answered}
 use Rattle.window.specs.declared.Turn.{Turn}
-use Rattle.window.specs.declared.Turn.TheVariants as Turn
 use Rattle.window.specs.Window.{offset_of, line_turn, bad_turn}
 use Rattle.stream.specs.declared.Next.{Next}
-use Rattle.stream.specs.declared.Next.TheVariants as Next
 use Rattle.stream.specs.Reading.{Told, told, bad_told, Read, read, over, read_by, most_records, read_next, Answering, turn_at, turn_by, turn_with}
 
 -- ---- the same turn, with the next record's place k further on

@@ -10,10 +10,8 @@ use Rattle.lines.specs.Lines.{bad_line}
 use Rattle.epa_polytope.specs.Stores.{Lists}
 use Rattle.epa.specs.Final.{Final, final, answered}
 use Rattle.window.specs.declared.Turn.{Turn}
-use Rattle.window.specs.declared.Turn.TheVariants as Turn
 use Rattle.window.specs.Window.{offset_of, line_turn, bad_turn}
 use Rattle.stream.specs.declared.Next.{Next}
-use Rattle.stream.specs.declared.Next.TheVariants as Next
 
 -- what a turn answers, and the output that it leaves
 pub record Told : Type 0 where

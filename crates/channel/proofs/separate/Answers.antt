@@ -1,10 +1,8 @@
 -- `separate` answers and leaves what the definition does, by GJK's result. Assumes nothing.
-use borrow.Author.Rules.{rules}
 use mathlib.Core.Path.{refl, ap}
 use lib.Ieee.{binary32}
 use Rattle.number.proofs.Told.{told}
 use Rattle.lines.specs.declared.line.Outcome.{Outcome}
-use Rattle.epa_polytope.proofs.Doing.{place}
 use Rattle.epa.specs.Final.{Final}
 use Rattle.channel.proofs.Separating.{meets, apart}
 use Rattle.channel.proofs.separate.Goals as goal

@@ -1,6 +1,5 @@
 -- What `start_of` returns. Assumes nothing.
 use lib.Ieee.{binary32}
-use Rattle.epa_polytope.proofs.Doing.{place}
 use Rattle.channel.proofs.Separating.{started}
 use Rattle.channel.proofs.start_of.Goals as goal
 

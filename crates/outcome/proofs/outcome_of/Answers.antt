@@ -1,6 +1,4 @@
 -- What `outcome_of` returns, by the run's end. Assumes nothing.
-use Rattle.std.proofs.Common.{ap}
-use borrow.Author.Rules.{rules}
 use Rattle.number.proofs.Told.{told}
 use Rattle.outcome.proofs.Telling.{told-as}
 use Rattle.outcome.proofs.outcome_of.Goals as goal

@@ -1,8 +1,5 @@
 -- `answer_next` answers and leaves what the definition does, by what reading came to. Assumes nothing.
-use borrow.Author.Rules.{rules}
-use mathlib.Core.Path.{◌∙◌}
 use lib.Ieee.{binary32}
-use Rattle.epa_polytope.proofs.Doing.{place}
 use Rattle.stream.specs.Stream.{line_for, turn_of}
 use Rattle.stream.proofs.Turns.{whole, none, lined}
 use Rattle.stream.proofs.answer_next.Goals as goal

@@ -1,7 +1,5 @@
 -- `read_next` comes to what the definition does, by the record's number and by what reading it found. Assumes nothing.
-use borrow.Author.Rules.{rules}
 use lib.Ieee.{binary32}
-use Rattle.epa_polytope.proofs.Doing.{place}
 use Rattle.stream.proofs.Turns.{all_read, found-whole, malformed, cut}
 use Rattle.stream.proofs.read_next.Goals as goal
 

@@ -1,5 +1,5 @@
 -- What `counted` returns, by the outcome. Assumes nothing.
-use Rattle.std.proofs.Common.{refl, rules}
+use Rattle.std.proofs.Common.{refl}
 use Rattle.figures.proofs.Counting.{by-outcome}
 use Rattle.figures.proofs.sums.counted.Goals as goal
 

@@ -1,5 +1,5 @@
 -- The line has room. Assumes nothing.
-use Rattle.std.proofs.Common.{arith, rules}
+use Rattle.std.proofs.Common.{arith}
 use Rattle.lines.proofs.Lengths.{bad-length}
 use Rattle.figures.proofs.Placing.{placed-put}
 use Rattle.figures.proofs.text.put_bad.Goals as goal

@@ -1,5 +1,5 @@
 -- The first line, the figures, and the last line where there is one. Assumes nothing.
-use Rattle.std.proofs.Common.{arith, rules}
+use Rattle.std.proofs.Common.{arith}
 use Rattle.lines.proofs.Puts.{then, within}
 use Rattle.figures.specs.Campaign.{first_line, campaign_text}
 use Rattle.figures.proofs.Placing.{figures-length}

@@ -1,5 +1,5 @@
 -- The digits has room. Assumes nothing.
-use Rattle.std.proofs.Common.{arith, rules}
+use Rattle.std.proofs.Common.{arith}
 use Rattle.lines.proofs.Lengths.{number-length}
 use Rattle.figures.proofs.Placing.{placed-put}
 use Rattle.figures.proofs.text.put_decimal.Goals as goal

@@ -1,5 +1,5 @@
 -- The letters, and four numbers after them. Assumes nothing.
-use Rattle.std.proofs.Common.{arith, rules}
+use Rattle.std.proofs.Common.{arith}
 use Rattle.lines.proofs.Puts.{then, within}
 use Rattle.figures.specs.Campaign.{figures_text}
 use Rattle.figures.proofs.Placing.{text-length, letters-length}

@@ -1,5 +1,5 @@
 -- Seven numbers, one after the other. Assumes nothing.
-use Rattle.std.proofs.Common.{arith, rules}
+use Rattle.std.proofs.Common.{arith}
 use Rattle.lines.proofs.Puts.{then, within}
 use Rattle.figures.specs.Campaign.{letters_text}
 use Rattle.figures.proofs.Placing.{text-length}

@@ -1,5 +1,5 @@
 -- The digits, and the byte after them. Assumes nothing.
-use Rattle.std.proofs.Common.{arith, rules}
+use Rattle.std.proofs.Common.{arith}
 use Rattle.lines.proofs.Puts.{then, within}
 use Rattle.lines.proofs.Lengths.{number-length}
 use Rattle.figures.specs.Campaign.{number_text}

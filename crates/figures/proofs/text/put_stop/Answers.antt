@@ -1,5 +1,4 @@
 -- The last line of each way to stop. Assumes nothing.
-use Rattle.std.proofs.Common.{arith, rules}
 use Rattle.lines.proofs.Puts.{nothing}
 use Rattle.figures.specs.Campaign.{stop_text}
 use Rattle.figures.proofs.text.put_stop.Goals as goal

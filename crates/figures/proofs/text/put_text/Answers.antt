@@ -1,5 +1,5 @@
 -- The text has room. Assumes nothing.
-use Rattle.std.proofs.Common.{arith, rules}
+use Rattle.std.proofs.Common.{arith}
 use Rattle.figures.proofs.Placing.{placed-put}
 use Rattle.figures.proofs.text.put_text.Goals as goal
 

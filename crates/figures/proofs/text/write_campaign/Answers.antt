@@ -1,5 +1,5 @@
 -- `write_campaign` places the lines: what `put_campaign` left in the first places of the local array. Assumes nothing.
-use Rattle.std.proofs.Common.{sym, ap, ◌∙◌, arith, length-take-le, rules}
+use Rattle.std.proofs.Common.{sym, ap, ◌∙◌, arith, length-take-le}
 use Rattle.lines.specs.Text.{place_of}
 use Rattle.lines.proofs.Puts.{front}
 use Rattle.figures.proofs.Placing.{campaign-length}

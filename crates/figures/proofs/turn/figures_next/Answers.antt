@@ -1,8 +1,7 @@
 -- `figures_next` answers and leaves what the definition does, by its number and by what reading the record found. Assumes nothing.
-use Rattle.std.proofs.Common.{rules, ap}
+use Rattle.std.proofs.Common.{ap}
 use lib.Ieee.{binary32}
 use Rattle.number.proofs.Told.{told}
-use Rattle.epa_polytope.proofs.Doing.{place}
 use Rattle.epa.specs.Final.{Final}
 use Rattle.figures.specs.declared.turn.Reckoned.{Reckoned}
 use Rattle.figures.proofs.Turns.{at-the-end, too_many, whole, malformed, cut}

@@ -1,5 +1,4 @@
 -- The reason of each answer. Assumes nothing.
-use borrow.Author.Rules.{rules}
 use Rattle.reason.proofs.reasons.found_reason.Goals as goal
 
 pub returns-in-SinglePoint : goal.returns-in-SinglePoint

@@ -1,5 +1,4 @@
 -- The reason of each end without an answer. Assumes nothing.
-use borrow.Author.Rules.{rules}
 use Rattle.reason.proofs.reasons.lost_reason.Goals as goal
 
 pub returns-in-KeyAtStart : goal.returns-in-KeyAtStart

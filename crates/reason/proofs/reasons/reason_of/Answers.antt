@@ -1,6 +1,4 @@
 -- What `reason_of` returns, by the run's end. Assumes nothing.
-use borrow.Author.Rules.{rules}
-use Rattle.epa_polytope.proofs.Doing.{place}
 use Rattle.reason.proofs.reasons.reason_of.Goals as goal
 
 pub returns-in-Answers : goal.returns-in-Answers

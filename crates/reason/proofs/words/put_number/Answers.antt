@@ -1,8 +1,6 @@
 -- `put_number` puts the digits in, at most twenty, since there is room for them. Assumes nothing.
 use native.Mathlib.Omega.{arith}
-use borrow.Author.Rules.{rules}
 use Rattle.lines.proofs.Lengths.{number-length}
-use Rattle.epa_polytope.proofs.Doing.{place}
 use Rattle.reason.proofs.Placing.{put, never-short}
 use Rattle.reason.proofs.words.put_number.Goals as goal
 

@@ -1,7 +1,5 @@
 -- `put_text` puts the text in, since there is room for it. Assumes nothing.
 use native.Mathlib.Omega.{arith}
-use borrow.Author.Rules.{rules}
-use Rattle.epa_polytope.proofs.Doing.{place}
 use Rattle.reason.proofs.Placing.{put, never-short}
 use Rattle.reason.proofs.words.put_text.Goals as goal
 

@@ -1,6 +1,4 @@
 -- The words of each reason. Assumes nothing.
-use borrow.Author.Rules.{rules}
-use Rattle.epa_polytope.proofs.Doing.{place}
 use Rattle.reason.specs.Words.{words_of}
 use Rattle.reason.proofs.words.put_words.Goals as goal
 

@@ -1,7 +1,5 @@
 -- `write_maybe` places the line of a reason, and where there is none leaves the output and the place. Assumes nothing.
-use borrow.Author.Rules.{rules}
 use mathlib.Core.Path.{refl}
-use Rattle.epa_polytope.proofs.Doing.{place}
 use Rattle.reason.proofs.words.write_maybe.Goals as goal
 
 pub returns-in-Some : goal.returns-in-Some

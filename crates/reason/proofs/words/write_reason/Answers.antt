@@ -1,7 +1,6 @@
 -- `write_reason` places the line: what `put_line` left in the first places of the local array. Assumes nothing.
 use mathlib.Core.Path.{sym, ap, ◌∙◌}
 use native.Mathlib.Omega.{arith}
-use borrow.Author.Rules.{rules}
 use lib.Seq.{length-take-le}
 use Rattle.lines.specs.Text.{place_of}
 use Rattle.lines.proofs.Puts.{front}
