@@ -1,5 +1,4 @@
 -- Each answer goes over as its number. Assumes nothing.
-use borrow.Author.Rules.{rules}
 use Rattle.certificate.specs.Certificate.{certificate_number}
 use Rattle.embedding.proofs.certify.certificate_number.Goals as goal
 

@@ -1,5 +1,4 @@
 -- `cast_record` returns `cast_record`, case by case.
-use borrow.Author.Rules.{rules}
 use lib.Ieee.{of_bits}
 use Rattle.vector.specs.Vector.{zero_v}
 use Rattle.cast.specs.Cast.{cast_number, cast_values}

@@ -1,5 +1,4 @@
 -- `separation_cast` answers what the cast does, or that a kind is none.
-use borrow.Author.Rules.{rules}
 use Rattle.embedding.proofs.impact.separation_cast.Goals as goal
 
 pub returns-in_default : goal.returns-in_default
