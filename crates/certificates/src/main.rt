@@ -45,8 +45,8 @@ fn direction_of(head: [u8; 20]) -> GridVector {
 
 // Reads the numbers of both hulls and prints the answer. False: the case is cut off.
 fn answer_numbers(rt: &HostRuntime, first: usize, second: usize, direction: GridVector) -> bool
-    requires fact_1 { first ≤ 256 }
-    requires fact_2 { second ≤ 256 }
+    requires first_fits { first ≤ 256 }
+    requires second_fits { second ≤ 256 }
 {
     let mut body = [0u8; 2048];
     let both = first + second;
