@@ -3,7 +3,8 @@
 ghost use Rattle.std.specs.Prelude.{◌≡◌, ◌≤◌};
 ghost use Rattle.std.specs.Float.{binary32};
 ghost use Rattle.number.specs.Told.{Told};
-ghost use Rattle.casefile.specs.Records.{got, number_at, spoiled as spoiled_of, small_at, numbers_at, Holds, float_of, vector_of, size_of, shape_in, pose_of, shape_at, read_case, case_number, case_value};
+ghost use Rattle.casefile.specs.Records.{got, number_at, spoiled as spoiled_of, small_at, numbers_at, Holds};
+ghost use Rattle.casefile.specs.Records.{float_of, vector_of, size_of, shape_in, pose_of, shape_at, read_case, case_number, case_value};
 
 use crate::numbers;
 use crate::numbers::NumberAnswer;

@@ -51,17 +51,6 @@ mag-below (negsuc n) = omega arith
 pub small-fits : (z : ℤ) → nat_abs z < 2 ^ 63 → SFits w64 z
 small-fits z h = let k : mag z ≤ nat_abs z = mag-below z in record { sfits = omega arith }
 
--- any two numbers of 32 bits
-size_32 : (z : ℤ) → SFits w32 z → nat_abs z ≤ 2 ^ 31
-size_32 (pos n) f = let h : n < 2 ^ 31 = f.sfits in omega arith
-size_32 (negsuc n) f = let h : n < 2 ^ 31 = f.sfits in omega arith
-
-pub product-fits : (a b : ℤ) → SFits w32 a → SFits w32 b → SFits w64 (a *ℤ b)
-product-fits a b f g =
-    let e : nat_abs (a *ℤ b) ≡ nat_abs a * nat_abs b = size-of-product a b in
-    let h : nat_abs a * nat_abs b ≤ 2 ^ 31 * 2 ^ 31 = mul-le-mul (size_32 a f) (size_32 b g) in
-    small-fits (a *ℤ b) (omega arith)
-
 -- ---- on the grid
 grid-size : (n : ℤ) → on_grid n ≡ true → nat_abs n ≤ 1_048_576
 unfolding on_grid

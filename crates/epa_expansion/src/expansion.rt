@@ -94,7 +94,8 @@ pub fn expand(
     plain: bool,
     expansion: Expansion,
 ) -> Step
-    ensures { Leaves (expand (walk_of plain) single expansion) tally result (λ m k. lend vertices.now (when m ids) (when m floats) (when m deleted) (when m edges) (when m heap_ids) (when m heap_keys) (with_pending (when m pending) k)) }
+    ensures { Leaves (expand (walk_of plain) single expansion) tally result
+        (λ m k. lend vertices.now (when m ids) (when m floats) (when m deleted) (when m edges) (when m heap_ids) (when m heap_keys) (with_pending (when m pending) k)) }
 {
     let face = expansion.face;
     let point = expansion.point;

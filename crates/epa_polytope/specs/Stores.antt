@@ -30,25 +30,32 @@ pub record Lists : Type 0 where
 
 -- one setter for each
 abbrev pub with_vertices : List Float → Lists → Lists
-with_vertices x l = record { vertices = x; face_ids = l.face_ids; face_floats = l.face_floats; deleted = l.deleted; edges = l.edges; heap_ids = l.heap_ids; heap_keys = l.heap_keys; pending = l.pending }
+with_vertices x l =
+    record { vertices = x; face_ids = l.face_ids; face_floats = l.face_floats; deleted = l.deleted; edges = l.edges; heap_ids = l.heap_ids; heap_keys = l.heap_keys; pending = l.pending }
 
 abbrev pub with_face_ids : List ℕ → Lists → Lists
-with_face_ids x l = record { vertices = l.vertices; face_ids = x; face_floats = l.face_floats; deleted = l.deleted; edges = l.edges; heap_ids = l.heap_ids; heap_keys = l.heap_keys; pending = l.pending }
+with_face_ids x l =
+    record { vertices = l.vertices; face_ids = x; face_floats = l.face_floats; deleted = l.deleted; edges = l.edges; heap_ids = l.heap_ids; heap_keys = l.heap_keys; pending = l.pending }
 
 abbrev pub with_face_floats : List Float → Lists → Lists
-with_face_floats x l = record { vertices = l.vertices; face_ids = l.face_ids; face_floats = x; deleted = l.deleted; edges = l.edges; heap_ids = l.heap_ids; heap_keys = l.heap_keys; pending = l.pending }
+with_face_floats x l =
+    record { vertices = l.vertices; face_ids = l.face_ids; face_floats = x; deleted = l.deleted; edges = l.edges; heap_ids = l.heap_ids; heap_keys = l.heap_keys; pending = l.pending }
 
 abbrev pub with_deleted : List ℕ → Lists → Lists
-with_deleted x l = record { vertices = l.vertices; face_ids = l.face_ids; face_floats = l.face_floats; deleted = x; edges = l.edges; heap_ids = l.heap_ids; heap_keys = l.heap_keys; pending = l.pending }
+with_deleted x l =
+    record { vertices = l.vertices; face_ids = l.face_ids; face_floats = l.face_floats; deleted = x; edges = l.edges; heap_ids = l.heap_ids; heap_keys = l.heap_keys; pending = l.pending }
 
 abbrev pub with_edges : List ℕ → Lists → Lists
-with_edges x l = record { vertices = l.vertices; face_ids = l.face_ids; face_floats = l.face_floats; deleted = l.deleted; edges = x; heap_ids = l.heap_ids; heap_keys = l.heap_keys; pending = l.pending }
+with_edges x l =
+    record { vertices = l.vertices; face_ids = l.face_ids; face_floats = l.face_floats; deleted = l.deleted; edges = x; heap_ids = l.heap_ids; heap_keys = l.heap_keys; pending = l.pending }
 
 abbrev pub with_heap : List ℕ → List Float → Lists → Lists
-with_heap x y l = record { vertices = l.vertices; face_ids = l.face_ids; face_floats = l.face_floats; deleted = l.deleted; edges = l.edges; heap_ids = x; heap_keys = y; pending = l.pending }
+with_heap x y l =
+    record { vertices = l.vertices; face_ids = l.face_ids; face_floats = l.face_floats; deleted = l.deleted; edges = l.edges; heap_ids = x; heap_keys = y; pending = l.pending }
 
 abbrev pub with_pending : List ℕ → Lists → Lists
-with_pending x l = record { vertices = l.vertices; face_ids = l.face_ids; face_floats = l.face_floats; deleted = l.deleted; edges = l.edges; heap_ids = l.heap_ids; heap_keys = l.heap_keys; pending = x }
+with_pending x l =
+    record { vertices = l.vertices; face_ids = l.face_ids; face_floats = l.face_floats; deleted = l.deleted; edges = l.edges; heap_ids = l.heap_ids; heap_keys = l.heap_keys; pending = x }
 
 -- all but the pending questions in the places of k's
 abbrev pub lend : List Float → List ℕ → List Float → List ℕ → List ℕ → List ℕ → List Float → Lists → Lists

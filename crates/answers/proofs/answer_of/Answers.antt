@@ -1,4 +1,4 @@
--- `answer_of` returns `answer_of`, outcome by outcome. Assumes nothing.
+-- `answer_of` returns the definition's `answer_of`, outcome by outcome. Assumes nothing.
 use lib.Ieee.{of_bits}
 use Rattle.vector.specs.Vector.{zero_v}
 use Rattle.answers.specs.Answers.{answer_of}

@@ -1,4 +1,4 @@
--- `shape_of` returns `shape_of`, kind by kind. Assumes nothing.
+-- `shape_of` returns the definition's `shape_of`, kind by kind. Assumes nothing.
 use borrow.Author.Tests.{eq-eqb, ne_eqb}
 use Rattle.answers.specs.Answers.{shape_of}
 use Rattle.answers.proofs.shape_of.Goals as goal

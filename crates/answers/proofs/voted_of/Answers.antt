@@ -1,4 +1,4 @@
--- `voted_of` returns `voted_of`, verdict by verdict. Assumes nothing.
+-- `voted_of` returns the definition's `voted_of`, verdict by verdict. Assumes nothing.
 use lib.Ieee.{of_bits}
 use Rattle.vector.specs.Vector.{zero_v}
 use Rattle.vote.specs.Vote.{verdict_values, no_answer}

@@ -1,3 +1,4 @@
+-- What the loop of `answer_block` keeps, and the number that falls at each turn.
 use Rattle.std.proofs.Common.{◌-◌}
 use Rattle.calls.proofs.answer_block.Given as goal
 

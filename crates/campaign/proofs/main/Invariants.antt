@@ -1,3 +1,4 @@
+-- What the loop of `main` keeps, and the number that falls at each turn.
 use Rattle.std.proofs.Common.{◌≡◌, ◌-◌, ◌≤◌, length}
 use Rattle.campaign.proofs.main.Given as goal
 

@@ -1,3 +1,4 @@
+-- What the loop of `answer_numbers` keeps, and the number that falls at each turn.
 use Rattle.std.proofs.Common.{◌≡◌, ◌-◌, ◌≤◌, length}
 use Rattle.certificates.proofs.answer_numbers.Given as goal
 

@@ -1,3 +1,4 @@
+-- What the loop of `main` keeps, and the number that falls at each turn.
 use Rattle.std.proofs.Common.{◌-◌, ◌≤◌}
 use Rattle.certificates.proofs.main.Given as goal
 

@@ -1,4 +1,4 @@
--- `start_faces` does what `start_faces` does: one of the two starts, by the dimension. Assumes nothing.
+-- `start_faces` does what the run's `start_faces` does: one of the two starts, by the dimension. Assumes nothing.
 use borrow.Author.Tests.{eq-eqb, ne_eqb}
 use Rattle.epa_polytope.specs.Start.{start_faces}
 use Rattle.epa_polytope.proofs.Doing.{first_way, second_way}

@@ -1,4 +1,4 @@
--- `grow_all` does what `grow_all` does: at each turn what is left of the edges does the same as all did at first. Assumes nothing.
+-- `grow_all` does what the run's `grow_all` does: at each turn what is left of the edges does the same as all did at first. Assumes nothing.
 use Rattle.std.proofs.Common.{◌^◌, ◌<◌, length, refl, arith, rules}
 use Rattle.epa_polytope.specs.declared.types.Found.TheVariants.{NewFaceNearer}
 use Rattle.epa_polytope.specs.Promises.{single}

@@ -1,3 +1,4 @@
+-- What the loop of `grow_all` keeps, and the number that falls at each turn.
 use Rattle.std.proofs.Common.{◌-◌}
 use Rattle.epa_polytope.specs.Promises.{single}
 use Rattle.epa_polytope.specs.Stores.{lend}

@@ -1,4 +1,4 @@
--- `grow_at` does what `grow_at` does: the face is made, linked and written, and queued if it holds the projection. What is left after the
+-- `grow_at` does what the run's `grow_at` does: the face is made, linked and written, and queued if it holds the projection. What is left after the
 -- writing is told once, of the place where `write_face` has returned; the three ways out are its cases. Assumes nothing.
 use Rattle.std.proofs.Common.{◌^◌, ◌<◌, length, refl, rules}
 use borrow.Author.Tests.{not-true, not-false}

@@ -1,4 +1,4 @@
--- `queue_new` does what `queue_new` does: the new face is nearer than the one that is expanded, or queued. Assumes nothing.
+-- `queue_new` does what the run's `queue_new` does: the new face is nearer than the one that is expanded, or queued. Assumes nothing.
 use Rattle.std.proofs.Common.{refl}
 use Rattle.epa_polytope.specs.Promises.{single}
 use Rattle.epa_polytope.specs.declared.types.Lost.TheVariants.{KeyLater}

@@ -1,3 +1,4 @@
+-- What the loop of `plain_walk` keeps, and the number that falls at each turn.
 use Rattle.epa_polytope.specs.Stores.{Lists, with_vertices, with_face_ids, with_face_floats}
 use Rattle.epa_polytope.specs.Expansion.{mesh_of}
 use Rattle.epa_polytope.specs.Promises.{single}

@@ -1,4 +1,4 @@
--- `push_face` does what `push_face` does: it is refused, or the face is written. Assumes nothing.
+-- `push_face` does what the run's `push_face` does: it is refused, or the face is written. Assumes nothing.
 use Prim.Native.Nat.{◌<◌, ◌^◌}
 use lib.ListN.{length}
 use borrow.Author.Rules.{rules}

@@ -1,4 +1,4 @@
--- `push_vertex` does what `push_vertex` does: it is refused, or the vertex is written. Assumes nothing.
+-- `push_vertex` does what the run's `push_vertex` does: it is refused, or the vertex is written. Assumes nothing.
 use Rattle.epa_polytope.proofs.Pushing.{vertex-refused, vertex-written}
 use Rattle.epa_pushes.proofs.push_vertex.Goals as goal
 

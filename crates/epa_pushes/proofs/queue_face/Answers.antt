@@ -1,4 +1,4 @@
--- `queue_face` does what `queue_face` does: the key, and the entry. Assumes nothing.
+-- `queue_face` does what the run's `queue_face` does: the key, and the entry. Assumes nothing.
 use Rattle.epa_polytope.proofs.Pushing.{key-refused, key-accepted}
 use Rattle.epa_pushes.proofs.queue_face.Goals as goal
 

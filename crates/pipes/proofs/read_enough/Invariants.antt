@@ -1,3 +1,4 @@
+-- What the loop of `read_enough` keeps, and the number that falls at each turn.
 use Rattle.std.proofs.Common.{◌≡◌, ◌-◌, ◌≤◌, length}
 use Rattle.pipes.specs.Pipes.{Grown, Kept}
 use Rattle.pipes.proofs.read_enough.Given as goal

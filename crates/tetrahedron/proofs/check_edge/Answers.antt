@@ -1,4 +1,4 @@
--- `check_edge` returns `check_edge`, by the two arms of its test.
+-- `check_edge` returns the definition's `check_edge`, by the two arms of its test.
 use lib.Ieee.{of_bits}
 use Rattle.tetrahedron.specs.Tetrahedron.{check_edge}
 use Rattle.tetrahedron.proofs.check_edge.Goals as goal

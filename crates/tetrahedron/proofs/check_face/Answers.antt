@@ -1,4 +1,4 @@
--- `check_face` returns `check_face`, by its tests in order.
+-- `check_face` returns the definition's `check_face`, by its tests in order.
 use lib.Ieee.{of_bits}
 use Rattle.tetrahedron.specs.Tetrahedron.{check_face, by_normal}
 use Rattle.tetrahedron.proofs.check_face.Goals as goal

@@ -1,4 +1,4 @@
--- `on_face` returns `on_face`, by the two arms of its test.
+-- `on_face` returns the definition's `on_face`, by the two arms of its test.
 use lib.Ieee.{of_bits}
 use Rattle.tetrahedron.specs.Tetrahedron.{on_face}
 use Rattle.tetrahedron.proofs.on_face.Goals as goal

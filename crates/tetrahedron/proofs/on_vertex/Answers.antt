@@ -1,4 +1,4 @@
--- `on_vertex` returns `on_vertex`.
+-- `on_vertex` returns the definition's `on_vertex`.
 use mathlib.Core.Path.{refl}
 use Rattle.tetrahedron.specs.Tetrahedron.{on_vertex}
 use Rattle.tetrahedron.proofs.on_vertex.Goals as goal

@@ -1,3 +1,4 @@
+-- What the loop of `to_front` keeps, and the number that falls at each turn.
 use Rattle.std.proofs.Common.{◌≡◌, ◌+◌, ◌-◌, ◌≤◌, length, take, drop}
 use lib.Seq.{sets}
 use Rattle.window.proofs.to_front.Given as goal

@@ -1,4 +1,4 @@
--- `corner_of` returns `corner_of`, by the flag.
+-- `corner_of` returns the definition's `corner_of`, by the flag.
 use Rattle.witnesses.specs.Witnesses.{corner_of}
 use Rattle.witnesses.proofs.corner_of.Goals as goal
 

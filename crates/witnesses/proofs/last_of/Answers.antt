@@ -1,4 +1,4 @@
--- `last_of` returns `last_of`, by the flag.
+-- `last_of` returns the definition's `last_of`, by the flag.
 use Rattle.witnesses.specs.Witnesses.{last_of}
 use Rattle.witnesses.proofs.last_of.Goals as goal
 

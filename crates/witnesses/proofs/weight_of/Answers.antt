@@ -1,4 +1,4 @@
--- `weight_of` returns `weight_of`, by the flag.
+-- `weight_of` returns the definition's `weight_of`, by the flag.
 use Rattle.witnesses.specs.Witnesses.{weight_of}
 use Rattle.witnesses.proofs.weight_of.Goals as goal
 

@@ -1,4 +1,4 @@
--- `with_vertex` returns `with_vertex`: refused where the sum or a reader is.
+-- `with_vertex` returns the definition's `with_vertex`: refused where the sum or a reader is.
 use Rattle.witnesses.specs.Witnesses.{with_vertex}
 use Rattle.witnesses.proofs.with_vertex.Goals as goal
 

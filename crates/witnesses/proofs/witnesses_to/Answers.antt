@@ -1,4 +1,4 @@
--- `witnesses_to` returns `witnesses_to`. The invariant: `sum` is that of the first i vertices.
+-- `witnesses_to` returns the definition's `witnesses_to`. The invariant: `sum` is that of the first i vertices.
 use mathlib.Core.Path.{refl, ap}
 use native.Mathlib.Numerals.{add-one}
 use native.Mathlib.Omega.{arith}

@@ -1,3 +1,4 @@
+-- What the loop of `chain` keeps, and the number that falls at each turn.
 use Rattle.std.proofs.Common.{◌-◌, ◌≤◌}
 use Rattle.calls.proofs.roots.chain.Given as goal
 

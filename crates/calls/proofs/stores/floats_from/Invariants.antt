@@ -1,3 +1,4 @@
+-- What the loop of `floats_from` keeps, and the number that falls at each turn.
 use Rattle.std.proofs.Common.{◌≡◌, ◌-◌, ◌≤◌, length}
 use Rattle.calls.proofs.stores.floats_from.Given as goal
 

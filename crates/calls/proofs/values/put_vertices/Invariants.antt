@@ -1,3 +1,4 @@
+-- What the loop of `put_vertices` keeps, and the number that falls at each turn.
 use Rattle.std.proofs.Common.{◌-◌, ◌≤◌}
 use Rattle.calls.proofs.values.put_vertices.Given as goal
 

@@ -1,3 +1,4 @@
+-- What the loop of `put_sizes` keeps, and the number that falls at each turn.
 use Rattle.std.proofs.Common.{◌-◌, ◌≤◌, length}
 use Rattle.calls.proofs.words.put_sizes.Given as goal
 

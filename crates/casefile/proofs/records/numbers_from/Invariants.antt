@@ -1,3 +1,4 @@
+-- What the loop of `numbers_from` keeps, and the number that falls at each turn.
 use Prim.Native.Nat.{◌-◌}
 use Rattle.casefile.proofs.Words.{Loop}
 use Rattle.casefile.proofs.records.numbers_from.Given as goal

@@ -1,4 +1,4 @@
--- `is_zero` returns `is_zero`.
+-- `is_zero` returns the definition's `is_zero`.
 use lib.Ieee.{of_bits}
 use Rattle.cast.specs.Ray.{is_zero}
 use Rattle.cast.proofs.ray.is_zero.Goals as goal

@@ -1,4 +1,4 @@
--- `ray_toi_with_halfspace` returns `ray_toi_with_halfspace`.
+-- `ray_toi_with_halfspace` returns the definition's `ray_toi_with_halfspace`.
 use lib.Ieee.{of_bits}
 use Rattle.cast.specs.Ray.{ray_toi_with_halfspace}
 use Rattle.cast.proofs.ray.ray_toi_with_halfspace.Goals as goal

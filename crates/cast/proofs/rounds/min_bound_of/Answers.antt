@@ -1,4 +1,4 @@
--- `min_bound_of` returns `min_bound_of`.
+-- `min_bound_of` returns the definition's `min_bound_of`.
 use Rattle.cast.specs.Cast.{min_bound_of}
 use Rattle.cast.proofs.rounds.min_bound_of.Goals as goal
 

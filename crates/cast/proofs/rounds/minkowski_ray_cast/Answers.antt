@@ -1,4 +1,4 @@
--- `minkowski_ray_cast` returns `minkowski_ray_cast`, and has its number and values.
+-- `minkowski_ray_cast` returns the definition's `minkowski_ray_cast`, and has its number and values.
 use Rattle.number.proofs.Told.{told}
 use Rattle.cast.specs.Cast.{after, minkowski_ray_cast}
 use Rattle.cast.proofs.rounds.minkowski_ray_cast.Goals as goal

@@ -1,4 +1,4 @@
--- `run_of` returns `run_of` with 100 rounds. The invariant: the rounds that are left, run from here, give what all of them give from the start.
+-- `run_of` returns the definition's `run_of` with 100 rounds. The invariant: the rounds that are left, run from here, give what all of them give from the start.
 use Prim.Native.Nat.{ℕ, suc, ◌+◌, ◌-◌, ◌<◌, ◌≤◌}
 use mathlib.Core.Path.{◌≡◌, ◌∙◌, sym, refl}
 use native.Mathlib.Omega.{arith}

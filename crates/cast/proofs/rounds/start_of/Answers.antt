@@ -1,4 +1,4 @@
--- `start_of` returns `start_of`.
+-- `start_of` returns the definition's `start_of`.
 use lib.Ieee.{of_bits}
 use Rattle.cast.specs.Cast.{start_of}
 use Rattle.reduction.proofs.Fits.{both-in-turn}

@@ -1,4 +1,4 @@
--- `turn_of` returns `turn_of`.
+-- `turn_of` returns the definition's `turn_of`.
 use lib.Ieee.{of_bits}
 use Rattle.cast.specs.Cast.{turn_of, upper_bound}
 use Rattle.cast.proofs.rounds.turn_of.Goals as goal

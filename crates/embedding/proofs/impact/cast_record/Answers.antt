@@ -1,4 +1,4 @@
--- `cast_record` returns `cast_record`, case by case.
+-- `cast_record` returns the definition's `cast_record`, case by case.
 use lib.Ieee.{of_bits}
 use Rattle.vector.specs.Vector.{zero_v}
 use Rattle.cast.specs.Cast.{cast_number, cast_values}

@@ -1,4 +1,4 @@
--- `malformed_cast` returns `malformed_cast`.
+-- `malformed_cast` returns the definition's `malformed_cast`.
 use mathlib.Core.Path.{refl}
 use lib.Ieee.{of_bits}
 use Rattle.vector.specs.Vector.{zero_v}

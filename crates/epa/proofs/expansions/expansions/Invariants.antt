@@ -1,3 +1,4 @@
+-- What the loop of `expansions` keeps, and the number that falls at each turn.
 use Rattle.epa_polytope.specs.Promises.{single_by, walk_of}
 use Rattle.epa.specs.Final.{lists_of}
 use Rattle.epa_polytope.proofs.Looping.{ExpandLoop}

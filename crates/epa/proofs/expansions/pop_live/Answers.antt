@@ -1,4 +1,4 @@
--- `pop_live` does what `pop_live` does: at each turn what is left of the heap does the same as all did at first. Assumes nothing.
+-- `pop_live` does what the run's `pop_live` does: at each turn what is left of the heap does the same as all did at first. Assumes nothing.
 use Rattle.epa_polytope.proofs.Popping.{pop-starts, pop-empty, pop-live, pop-less, pop-again}
 use Rattle.epa.proofs.expansions.pop_live.Goals as goal
 

@@ -1,3 +1,4 @@
+-- What the loop of `pop_live` keeps, and the number that falls at each turn.
 use Rattle.epa_polytope.proofs.Popping.{PopLoop}
 use Rattle.epa.proofs.expansions.pop_live.Given as goal
 

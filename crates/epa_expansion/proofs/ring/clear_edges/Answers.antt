@@ -1,4 +1,4 @@
--- `clear_edges` does what `clear_edges` does: the edges' pairs are zero, and none is counted. Assumes nothing.
+-- `clear_edges` does what the run's `clear_edges` does: the edges' pairs are zero, and none is counted. Assumes nothing.
 use Rattle.epa_polytope.proofs.Expanding.{edges-cleared}
 use Rattle.epa_expansion.proofs.ring.clear_edges.Goals as goal
 

@@ -1,3 +1,4 @@
+-- What the loop of `clear_pairs` keeps, and the number that falls at each turn.
 use mathlib.Core.Path.{◌≡◌}
 use Prim.Native.Nat.{◌≤◌, ◌-◌}
 use Rattle.epa_polytope.specs.Expansion.{blank}

@@ -1,4 +1,4 @@
--- `close_ring` does what `close_ring` does: no face was made, or two links close the ring. Assumes nothing.
+-- `close_ring` does what the run's `close_ring` does: no face was made, or two links close the ring. Assumes nothing.
 use mathlib.Core.Path.{refl}
 use Rattle.epa_polytope.proofs.Doing.{here}
 use Rattle.epa_polytope.proofs.Expanding.{none_made, ring-closed}

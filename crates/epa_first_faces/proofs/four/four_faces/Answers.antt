@@ -1,4 +1,4 @@
--- `four_faces` does what `four_faces` does: two pairs of pushes, of which the first ends the run, or the second does the rest. Assumes nothing.
+-- `four_faces` does what the run's `four_faces` does: two pairs of pushes, of which the first ends the run, or the second does the rest. Assumes nothing.
 use Rattle.epa_polytope.specs.Start.{four_faces}
 use Rattle.epa_polytope.proofs.Pairing.{pair-goes-on, pair_ends}
 use Rattle.epa_first_faces.proofs.four.four_faces.Goals as goal

@@ -1,4 +1,4 @@
--- `queue_four` does what `queue_four` does: two pairs are queued or left, either of which may end the run, and one of the four has to hold. Assumes nothing.
+-- `queue_four` does what the run's `queue_four` does: two pairs are queued or left, either of which may end the run, and one of the four has to hold. Assumes nothing.
 use Rattle.epa_polytope.specs.Promises.{single}
 use Rattle.epa_polytope.proofs.StartingFour.{first-pair-ends, second-pair-ends, one_holds, none-holds}
 use Rattle.epa_first_faces.proofs.four.queue_four.Goals as goal

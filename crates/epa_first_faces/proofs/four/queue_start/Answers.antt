@@ -1,4 +1,4 @@
--- `queue_start` does what `queue_start` does: a face that holds the projection is queued, another left. Assumes nothing.
+-- `queue_start` does what the run's `queue_start` does: a face that holds the projection is queued, another left. Assumes nothing.
 use mathlib.Core.Path.{refl}
 use Rattle.epa_polytope.specs.Promises.{single}
 use Rattle.epa_polytope.proofs.Doing.{here}

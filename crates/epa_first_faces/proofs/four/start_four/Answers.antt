@@ -1,4 +1,4 @@
--- `start_four` does what `start_four` does: four faces of the vertices wound outward end the run, or their entries of the heap do the rest. Assumes nothing.
+-- `start_four` does what the run's `start_four` does: four faces of the vertices wound outward end the run, or their entries of the heap do the rest. Assumes nothing.
 use mathlib.Core.Path.{refl}
 use Rattle.epa_polytope.specs.Promises.{single}
 use Rattle.epa_polytope.proofs.Doing.{here}

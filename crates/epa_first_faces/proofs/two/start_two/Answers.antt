@@ -1,4 +1,4 @@
--- `start_two` does what `start_two` does: a third vertex ends the run, or the two faces do the rest. Assumes nothing.
+-- `start_two` does what the run's `start_two` does: a third vertex ends the run, or the two faces do the rest. Assumes nothing.
 use mathlib.Core.Path.{refl}
 use Rattle.epa_polytope.proofs.Doing.{here}
 use Rattle.epa_polytope.proofs.StartingTwo.{no_third, two_started}

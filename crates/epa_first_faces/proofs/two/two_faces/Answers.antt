@@ -1,4 +1,4 @@
--- `two_faces` does what `two_faces` does: two pushes, which end the run, or two entries of the heap do the rest. Assumes nothing.
+-- `two_faces` does what the run's `two_faces` does: two pushes, which end the run, or two entries of the heap do the rest. Assumes nothing.
 use mathlib.Core.Path.{refl}
 use Rattle.epa_polytope.specs.Promises.{single}
 use Rattle.epa_polytope.proofs.Doing.{here}

@@ -1,4 +1,4 @@
--- What `dist_tol` returns: `dist_tol` by computation, each call told by its contract. Assumes nothing.
+-- What `dist_tol` returns: the definition's `dist_tol`, by computation, each call told by its contract. Assumes nothing.
 use lib.Ieee.{of_bits}
 use Rattle.epa_polytope.specs.Start.{dist_tol}
 use Rattle.epa_start.proofs.vertices.dist_tol.Goals as goal

@@ -1,4 +1,4 @@
--- `push_points` does what `push_points` does: at each turn what is left of the simplex does the same as all did at first. Assumes nothing.
+-- `push_points` does what the run's `push_points` does: at each turn what is left of the simplex does the same as all did at first. Assumes nothing.
 use native.Mathlib.Omega.{arith}
 use Rattle.epa_polytope.proofs.Starting.{points-start, points-turn, points-end, points-done}
 use Rattle.epa_start.proofs.vertices.push_points.Goals as goal

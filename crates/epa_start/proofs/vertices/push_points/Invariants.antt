@@ -1,3 +1,4 @@
+-- What the loop of `push_points` keeps, and the number that falls at each turn.
 use Prim.Native.Nat.{◌+◌, ◌-◌}
 use Rattle.epa_polytope.specs.Stores.{with_vertices}
 use Rattle.epa_polytope.proofs.Starting.{PointsLoop}

@@ -1,3 +1,4 @@
+-- What the loop of `scale_of` keeps, and the number that falls at each turn.
 use Prim.Native.Nat.{◌≤◌, ◌-◌}
 use lib.Ieee.{binary32}
 use Rattle.epa_polytope.proofs.Starting.{ScaleLoop}

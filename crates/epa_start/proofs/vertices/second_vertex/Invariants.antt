@@ -1,3 +1,4 @@
+-- What the loop of `second_vertex` keeps, and the number that falls at each turn.
 use Prim.Native.Nat.{◌-◌}
 use Rattle.epa_polytope.specs.Promises.{single_world}
 use Rattle.epa_polytope.proofs.Searching.{SearchLoop}

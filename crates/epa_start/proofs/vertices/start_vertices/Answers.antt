@@ -1,4 +1,4 @@
--- `start_vertices` does what `start_vertices` does, of what has to be a simplex: its vertices, and a second one for a single one. Assumes nothing.
+-- `start_vertices` does what the run's `start_vertices` does, of what has to be a simplex: its vertices, and a second one for a single one. Assumes nothing.
 use borrow.Author.Tests.{eq-eqb, ne_eqb}
 use mathlib.Core.Bool.{not}
 use mathlib.Core.Path.{refl, ap}

@@ -1,4 +1,4 @@
--- `axis_of` returns `axis_of`, by its two tests.
+-- `axis_of` returns the definition's `axis_of`, by its two tests.
 use borrow.Author.Tests.{eq-eqb, ne_eqb}
 use Rattle.gjk.specs.Perturbed.{axis_of}
 use Rattle.gjk.proofs.perturbed.axis_of.Goals as goal

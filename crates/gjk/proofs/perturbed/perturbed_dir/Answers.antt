@@ -1,4 +1,4 @@
--- `perturbed_dir` returns `perturbed_dir`: its offset is the nearest value to 0.01.
+-- `perturbed_dir` returns the definition's `perturbed_dir`: its offset is the nearest value to 0.01.
 use lib.Ieee.{of_bits}
 use Rattle.gjk.specs.Perturbed.{unwrap_or, offset_f, perturbed_dir}
 use Rattle.gjk.proofs.perturbed.perturbed_dir.Goals as goal

@@ -1,4 +1,4 @@
--- `sign_of` returns `sign_of`.
+-- `sign_of` returns the definition's `sign_of`.
 use borrow.Author.Tests.{eq-eqb, ne_eqb}
 use lib.Ieee.{of_bits}
 use Rattle.gjk.specs.Perturbed.{sign_of}

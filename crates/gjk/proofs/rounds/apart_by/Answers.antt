@@ -1,4 +1,4 @@
--- `apart_by` returns an ending whose result is `apart_by`, by the flag.
+-- `apart_by` returns an ending whose result is the definition's `apart_by`, by the flag.
 use Rattle.gjk.specs.Gjk.{apart_by}
 use Rattle.gjk.specs.Carried.{result_by}
 use Rattle.gjk.proofs.rounds.apart_by.Goals as goal

@@ -1,4 +1,4 @@
--- `closest_by` returns `closest_by`.
+-- `closest_by` returns the definition's `closest_by`.
 use Rattle.gjk.specs.Gjk.{closest_by}
 use Rattle.gjk.proofs.rounds.closest_by.Goals as goal
 

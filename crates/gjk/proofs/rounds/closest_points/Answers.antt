@@ -1,4 +1,4 @@
--- `closest_points` returns `closest_points`: the start, and the run where there is one.
+-- `closest_points` returns the definition's `closest_points`: the start, and the run where there is one.
 use mathlib.Core.Path.{◌≡◌, sym, ap, ◌∙◌}
 use lib.Ieee.{binary32}
 use Rattle.number.proofs.Told.{told}

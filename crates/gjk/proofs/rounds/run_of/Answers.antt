@@ -1,4 +1,4 @@
--- `run_of` returns `run_of` with 107 turns. The invariant: the turns that are left, run from here, give what all of them give from the start; and `niter` is below 100.
+-- `run_of` returns the definition's `run_of` with 107 turns. The invariant: the turns that are left, run from here, give what all of them give from the start; and `niter` is below 100.
 use Prim.Native.Nat.{ℕ, suc, ◌+◌, ◌-◌, ◌<◌, ◌≤◌}
 use mathlib.Core.Path.{◌≡◌, ◌∙◌, sym, ap, refl}
 use native.Mathlib.Omega.{arith}

@@ -1,4 +1,4 @@
--- `start_of` returns `start_of`: the two operations in turn are the reduction.
+-- `start_of` returns the definition's `start_of`: the two operations in turn are the reduction.
 use lib.Ieee.{of_bits}
 use Rattle.number.specs.Root.{root}
 use Rattle.reduction.proofs.Fits.{both-in-turn}

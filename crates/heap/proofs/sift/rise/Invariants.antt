@@ -1,3 +1,4 @@
+-- What the loop of `rise` keeps, and the number that falls at each turn.
 use Prim.Native.Nat.{ℕ, ◌<◌, min}
 use mathlib.Core.Path.{◌≡◌}
 use lib.ListN.{length}

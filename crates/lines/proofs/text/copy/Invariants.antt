@@ -1,3 +1,4 @@
+-- What the loop of `copy` keeps, and the number that falls at each turn.
 use Prim.Native.Nat.{◌-◌, ◌≤◌}
 use mathlib.Core.Path.{◌≡◌}
 use lib.ListN.{length, take}

@@ -1,3 +1,4 @@
+-- What the loop of `nearest_root` keeps, and the number that falls at each turn.
 use Prim.Native.Nat.{◌≤◌, ◌^◌}
 use Rattle.number.proofs.Schoolbook.{Found}
 use Rattle.number.proofs.digits.nearest_root.Given as goal

@@ -1,4 +1,4 @@
--- `is_infinite` returns `is_infinite`, test by test. Assumes nothing.
+-- `is_infinite` returns the definition's `is_infinite`, test by test. Assumes nothing.
 use lib.Ieee.{neg}
 use Rattle.projection.specs.Relative.{is_infinite}
 use Rattle.projection.proofs.relative.is_infinite.Goals as goal

@@ -1,4 +1,4 @@
--- `larger_size` returns `larger_size`, by the two arms of its test.
+-- `larger_size` returns the definition's `larger_size`, by the two arms of its test.
 use Rattle.projection.specs.Relative.{larger_size}
 use Rattle.projection.proofs.relative.larger_size.Goals as goal
 

@@ -1,4 +1,4 @@
--- `relative_eq` returns `relative_eq`, by its tests in order.
+-- `relative_eq` returns the definition's `relative_eq`, by its tests in order.
 use Rattle.projection.specs.Relative.{relative_eq}
 use Rattle.projection.proofs.relative.relative_eq.Goals as goal
 

@@ -1,4 +1,4 @@
--- `edge_weights` returns `edge_weights`, edge by edge.
+-- `edge_weights` returns the definition's `edge_weights`, edge by edge.
 use borrow.Author.Tests.{eq-eqb, ne_eqb}
 use lib.Ieee.{of_bits}
 use Rattle.projection.specs.Triangle.{edge_weights}

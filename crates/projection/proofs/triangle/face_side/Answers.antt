@@ -1,4 +1,4 @@
--- `face_side` returns `face_side`, by the two arms of its test.
+-- `face_side` returns the definition's `face_side`, by the two arms of its test.
 use lib.Ieee.{of_bits}
 use Rattle.projection.specs.Triangle.{face_side}
 use Rattle.projection.proofs.triangle.face_side.Goals as goal

@@ -1,4 +1,4 @@
--- `on_edge` returns `on_edge`, operation by operation.
+-- `on_edge` returns the definition's `on_edge`, operation by operation.
 use lib.Ieee.{of_bits}
 use Rattle.projection.specs.Triangle.{on_edge}
 use Rattle.projection.proofs.triangle.on_edge.Goals as goal

@@ -1,4 +1,4 @@
--- `on_vertex` returns `on_vertex`.
+-- `on_vertex` returns the definition's `on_vertex`.
 use mathlib.Core.Path.{refl}
 use Rattle.projection.specs.Triangle.{on_vertex}
 use Rattle.projection.proofs.triangle.on_vertex.Goals as goal

@@ -1,4 +1,4 @@
--- `vertex_weights` returns `vertex_weights`, corner by corner.
+-- `vertex_weights` returns the definition's `vertex_weights`, corner by corner.
 use borrow.Author.Tests.{eq-eqb, ne_eqb}
 use lib.Ieee.{of_bits}
 use Rattle.projection.specs.Triangle.{vertex_weights}

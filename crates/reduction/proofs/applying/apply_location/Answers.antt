@@ -1,4 +1,4 @@
--- `apply_location` returns `apply_location`: its plan is carried out.
+-- `apply_location` returns the definition's `apply_location`: its plan is carried out.
 use mathlib.Core.Path.{ap, ◌∙◌}
 use Rattle.number.proofs.Told.{told}
 use Rattle.reduction.specs.declared.applying.Applied.{Applied}

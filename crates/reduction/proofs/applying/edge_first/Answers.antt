@@ -1,4 +1,4 @@
--- `edge_first` plans `edge_first`, edge by edge.
+-- `edge_first` plans the definition's `edge_first`, edge by edge.
 use native.Mathlib.Omega.{arith}
 use borrow.Author.Tests.{eq-eqb, ne_eqb}
 use Rattle.reduction.specs.Reduction.{edge_first}

@@ -1,4 +1,4 @@
--- `edge_plan` returns `edge_plan`.
+-- `edge_plan` returns the definition's `edge_plan`.
 use Rattle.reduction.proofs.applying.edge_plan.Goals as goal
 
 pub returns : goal.returns

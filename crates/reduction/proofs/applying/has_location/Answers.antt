@@ -1,4 +1,4 @@
--- `has_location` returns `has_location`, location by location.
+-- `has_location` returns the definition's `has_location`, location by location.
 use Rattle.reduction.specs.Reduction.{has_location}
 use Rattle.reduction.proofs.applying.has_location.Goals as goal
 

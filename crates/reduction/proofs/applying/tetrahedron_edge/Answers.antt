@@ -1,4 +1,4 @@
--- `tetrahedron_edge` plans `tetrahedron_edge`: the moves are those of `edge_first`, and the weights are the old ones but for two, whatever moved.
+-- `tetrahedron_edge` plans the definition's `tetrahedron_edge`: the moves are those of `edge_first`, and the weights are the old ones but for two, whatever moved.
 use Prim.Native.Nat.{ℕ}
 use mathlib.Core.Path.{◌≡◌, refl, ap, ◌∙◌}
 use lib.Ieee.{Float}

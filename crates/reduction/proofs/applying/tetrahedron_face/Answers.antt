@@ -1,4 +1,4 @@
--- `tetrahedron_face` plans `tetrahedron_face`, face by face.
+-- `tetrahedron_face` plans the definition's `tetrahedron_face`, face by face.
 use mathlib.Core.Path.{refl}
 use borrow.Author.Tests.{eq-eqb, ne_eqb}
 use native.Mathlib.Omega.{arith}

@@ -1,4 +1,4 @@
--- `triangle_edge` plans `triangle_edge`, edge by edge.
+-- `triangle_edge` plans the definition's `triangle_edge`, edge by edge.
 use mathlib.Core.Path.{refl}
 use borrow.Author.Tests.{eq-eqb, ne_eqb}
 use native.Mathlib.Omega.{arith}

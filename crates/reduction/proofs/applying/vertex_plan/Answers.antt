@@ -1,4 +1,4 @@
--- `vertex_plan` returns `vertex_plan`.
+-- `vertex_plan` returns the definition's `vertex_plan`.
 use lib.Ieee.{of_bits}
 use Rattle.reduction.proofs.applying.vertex_plan.Goals as goal
 

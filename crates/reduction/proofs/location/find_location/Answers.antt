@@ -1,4 +1,4 @@
--- `find_location` returns `find_location`, dimension by dimension.
+-- `find_location` returns the definition's `find_location`, dimension by dimension.
 use borrow.Author.Tests.{eq-eqb, ne_eqb}
 use Rattle.reduction.specs.Reduction.{find_location}
 use Rattle.reduction.proofs.location.find_location.Goals as goal

@@ -1,4 +1,4 @@
--- `locate_segment` returns `locate_segment`.
+-- `locate_segment` returns the definition's `locate_segment`.
 use lib.Ieee.{of_bits}
 use Rattle.vector.specs.Vector.{zero_v}
 use Rattle.reduction.specs.Reduction.{locate_segment}

@@ -1,4 +1,4 @@
--- `locate_tetrahedron` returns `locate_tetrahedron`.
+-- `locate_tetrahedron` returns the definition's `locate_tetrahedron`.
 use lib.Ieee.{of_bits}
 use Rattle.vector.specs.Vector.{zero_v}
 use Rattle.reduction.specs.Reduction.{locate_tetrahedron}

@@ -1,4 +1,4 @@
--- `locate_triangle` returns `locate_triangle`.
+-- `locate_triangle` returns the definition's `locate_triangle`.
 use lib.Ieee.{of_bits}
 use Rattle.vector.specs.Vector.{zero_v}
 use Rattle.reduction.specs.Reduction.{locate_triangle}

@@ -1,4 +1,4 @@
--- `project_origin` returns `project_origin`.
+-- `project_origin` returns the definition's `project_origin`.
 use Rattle.number.proofs.Told.{told}
 use Rattle.reduction.specs.Reduction.{project_origin}
 use Rattle.reduction.proofs.location.project_origin.Goals as goal

@@ -1,4 +1,4 @@
--- `segment_location` returns `segment_location`, case by case.
+-- `segment_location` returns the definition's `segment_location`, case by case.
 use Rattle.reduction.specs.Reduction.{segment_location}
 use Rattle.reduction.proofs.location.segment_location.Goals as goal
 

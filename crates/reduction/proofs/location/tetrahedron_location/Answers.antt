@@ -1,4 +1,4 @@
--- `tetrahedron_location` returns `tetrahedron_location`, case by case.
+-- `tetrahedron_location` returns the definition's `tetrahedron_location`, case by case.
 use Rattle.reduction.specs.Reduction.{tetrahedron_location}
 use Rattle.reduction.proofs.location.tetrahedron_location.Goals as goal
 

@@ -1,4 +1,4 @@
--- `triangle_location` returns `triangle_location`, case by case.
+-- `triangle_location` returns the definition's `triangle_location`, case by case.
 use Rattle.reduction.specs.Reduction.{triangle_location}
 use Rattle.reduction.proofs.location.triangle_location.Goals as goal
 

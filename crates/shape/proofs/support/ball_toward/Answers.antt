@@ -1,4 +1,4 @@
--- `ball_toward` returns `ball_toward`.
+-- `ball_toward` returns the definition's `ball_toward`.
 use Rattle.shape.specs.Support.{ball_toward}
 use Rattle.shape.proofs.support.ball_toward.Goals as goal
 

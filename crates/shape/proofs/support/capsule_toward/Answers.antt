@@ -1,4 +1,4 @@
--- `capsule_toward` returns `capsule_toward`, by the two arms of its test.
+-- `capsule_toward` returns the definition's `capsule_toward`, by the two arms of its test.
 use Rattle.shape.specs.Support.{capsule_toward}
 use Rattle.shape.proofs.support.capsule_toward.Goals as goal
 

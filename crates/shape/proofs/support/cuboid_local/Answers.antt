@@ -1,4 +1,4 @@
--- `cuboid_local` returns `cuboid_local`, component by component.
+-- `cuboid_local` returns the definition's `cuboid_local`, component by component.
 use Rattle.shape.specs.Support.{cuboid_local}
 use Rattle.shape.proofs.support.cuboid_local.Goals as goal
 

@@ -1,4 +1,4 @@
--- `from_shapes` returns `from_shapes`.
+-- `from_shapes` returns the definition's `from_shapes`.
 use Rattle.shape.specs.Support.{from_shapes}
 use Rattle.shape.proofs.support.from_shapes.Goals as goal
 

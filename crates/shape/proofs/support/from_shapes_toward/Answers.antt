@@ -1,4 +1,4 @@
--- `from_shapes_toward` returns `from_shapes_toward`.
+-- `from_shapes_toward` returns the definition's `from_shapes_toward`.
 use Rattle.shape.specs.Support.{from_shapes_toward}
 use Rattle.shape.proofs.support.from_shapes_toward.Goals as goal
 

@@ -1,4 +1,4 @@
--- `triangle_local` returns `triangle_local`, by its tests.
+-- `triangle_local` returns the definition's `triangle_local`, by its tests.
 use Rattle.shape.specs.Support.{triangle_local}
 use Rattle.shape.proofs.support.triangle_local.Goals as goal
 

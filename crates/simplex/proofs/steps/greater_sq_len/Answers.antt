@@ -1,4 +1,4 @@
--- `greater_sq_len` returns `greater_sq_len`.
+-- `greater_sq_len` returns the definition's `greater_sq_len`.
 use Rattle.simplex.specs.Simplex.{greater_sq_len}
 use Rattle.simplex.proofs.steps.greater_sq_len.Goals as goal
 

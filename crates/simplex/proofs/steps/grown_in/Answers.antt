@@ -1,4 +1,4 @@
--- `grown_in` returns `grown_in`, write by write.
+-- `grown_in` returns the definition's `grown_in`, write by write.
 use mathlib.Core.Path.{refl}
 use Rattle.simplex.specs.Simplex.{grown_in}
 use Rattle.simplex.proofs.steps.grown_in.Goals as goal

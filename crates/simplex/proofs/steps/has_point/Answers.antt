@@ -1,4 +1,4 @@
--- `has_point` returns `has_point`. The invariant: `found` tells of the first i vertices.
+-- `has_point` returns the definition's `has_point`. The invariant: `found` tells of the first i vertices.
 use mathlib.Core.Path.{refl, ap}
 use native.Mathlib.Numerals.{add-one}
 use native.Mathlib.Omega.{arith}

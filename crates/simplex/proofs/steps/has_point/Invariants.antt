@@ -1,3 +1,4 @@
+-- What the loop of `has_point` keeps, and the number that falls at each turn.
 use mathlib.Core.Path.{◌≡◌}
 use Prim.Native.Nat.{◌+◌, ◌-◌, ◌≤◌}
 use Rattle.simplex.specs.Simplex.{has_point}

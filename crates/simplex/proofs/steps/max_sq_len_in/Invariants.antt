@@ -1,3 +1,4 @@
+-- What the loop of `max_sq_len_in` keeps, and the number that falls at each turn.
 use mathlib.Core.Path.{◌≡◌}
 use Prim.Native.Nat.{◌+◌, ◌-◌, ◌≤◌}
 use lib.Ieee.{binary32}

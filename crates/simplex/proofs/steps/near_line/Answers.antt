@@ -1,4 +1,4 @@
--- `near_line` returns `near_line`, operation by operation.
+-- `near_line` returns the definition's `near_line`, operation by operation.
 use Rattle.simplex.specs.Simplex.{near_line}
 use Rattle.simplex.proofs.steps.near_line.Goals as goal
 

@@ -1,4 +1,4 @@
--- `near_plane` returns `near_plane`, operation by operation.
+-- `near_plane` returns the definition's `near_plane`, operation by operation.
 use Rattle.simplex.specs.Simplex.{near_plane}
 use Rattle.simplex.proofs.steps.near_plane.Goals as goal
 

@@ -1,4 +1,4 @@
--- `near_point` returns `near_point`, operation by operation.
+-- `near_point` returns the definition's `near_point`, operation by operation.
 use Rattle.simplex.specs.Simplex.{near_point}
 use Rattle.simplex.proofs.steps.near_point.Goals as goal
 

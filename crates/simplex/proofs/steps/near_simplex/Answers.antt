@@ -1,4 +1,4 @@
--- `near_simplex` returns `near_simplex`, dimension by dimension.
+-- `near_simplex` returns the definition's `near_simplex`, dimension by dimension.
 use borrow.Author.Tests.{eq-eqb, ne_eqb}
 use Rattle.simplex.specs.Simplex.{near_simplex}
 use Rattle.simplex.proofs.steps.near_simplex.Goals as goal

@@ -1,4 +1,4 @@
--- `saved_in` returns `saved_in`, write by write.
+-- `saved_in` returns the definition's `saved_in`, write by write.
 use mathlib.Core.Path.{refl}
 use Rattle.simplex.specs.Simplex.{saved_in}
 use Rattle.simplex.proofs.steps.saved_in.Goals as goal

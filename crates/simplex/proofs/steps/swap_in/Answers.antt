@@ -1,4 +1,4 @@
--- `swap_in` returns `swap_in`, write by write.
+-- `swap_in` returns the definition's `swap_in`, write by write.
 use mathlib.Core.Path.{refl}
 use Rattle.simplex.specs.Simplex.{swap_in}
 use Rattle.simplex.proofs.steps.swap_in.Goals as goal

@@ -1,4 +1,4 @@
--- `translated_in` returns `translated_in`. The invariant: the first i vertices of `t` are translated.
+-- `translated_in` returns the definition's `translated_in`. The invariant: the first i vertices of `t` are translated.
 use mathlib.Core.Path.{refl, ap}
 use native.Mathlib.Numerals.{add-one}
 use native.Mathlib.Omega.{arith}

@@ -1,4 +1,4 @@
--- `Tetrahedron::check_edges` returns `check_edges`, edge by edge.
+-- `Tetrahedron::check_edges` returns the definition's `check_edges`, edge by edge.
 use Rattle.tetrahedron.specs.Tetrahedron.{check_edges}
 use Rattle.tetrahedron.proofs.Tetrahedron.check_edges.Goals as goal
 

@@ -1,4 +1,4 @@
--- `Tetrahedron::check_faces` returns `check_faces`, up to the first face that finds something.
+-- `Tetrahedron::check_faces` returns the definition's `check_faces`, up to the first face that finds something.
 use Rattle.tetrahedron.specs.Tetrahedron.{check_faces, ◌or_else◌}
 use Rattle.tetrahedron.proofs.Tetrahedron.check_faces.Goals as goal
 

@@ -1,4 +1,4 @@
--- `Tetrahedron::differences` returns `differences`, side by side.
+-- `Tetrahedron::differences` returns the definition's `differences`, side by side.
 use Rattle.tetrahedron.specs.Tetrahedron.{differences}
 use Rattle.tetrahedron.proofs.Tetrahedron.differences.Goals as goal
 

@@ -1,4 +1,4 @@
--- `Tetrahedron::face_abc` returns `face_abc`: one call of `check_face`.
+-- `Tetrahedron::face_abc` returns the definition's `face_abc`: one call of `check_face`.
 use Rattle.tetrahedron.specs.Tetrahedron.{face_abc}
 use Rattle.tetrahedron.proofs.Tetrahedron.face_abc.Goals as goal
 

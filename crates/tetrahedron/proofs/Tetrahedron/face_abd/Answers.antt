@@ -1,4 +1,4 @@
--- `Tetrahedron::face_abd` returns `face_abd`: one call of `check_face`.
+-- `Tetrahedron::face_abd` returns the definition's `face_abd`: one call of `check_face`.
 use Rattle.tetrahedron.specs.Tetrahedron.{face_abd}
 use Rattle.tetrahedron.proofs.Tetrahedron.face_abd.Goals as goal
 

@@ -1,4 +1,4 @@
--- `Tetrahedron::face_acd` returns `face_acd`: one call of `check_face`.
+-- `Tetrahedron::face_acd` returns the definition's `face_acd`: one call of `check_face`.
 use Rattle.tetrahedron.specs.Tetrahedron.{face_acd}
 use Rattle.tetrahedron.proofs.Tetrahedron.face_acd.Goals as goal
 

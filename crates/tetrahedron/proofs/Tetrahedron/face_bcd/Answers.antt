@@ -1,4 +1,4 @@
--- `Tetrahedron::face_bcd` returns `face_bcd`: one call of `check_face`.
+-- `Tetrahedron::face_bcd` returns the definition's `face_bcd`: one call of `check_face`.
 use Rattle.tetrahedron.specs.Tetrahedron.{face_bcd}
 use Rattle.tetrahedron.proofs.Tetrahedron.face_bcd.Goals as goal
 

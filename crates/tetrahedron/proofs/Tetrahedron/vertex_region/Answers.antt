@@ -1,4 +1,4 @@
--- `Tetrahedron::vertex_region` returns `vertex_region`, by its tests in order.
+-- `Tetrahedron::vertex_region` returns the definition's `vertex_region`, by its tests in order.
 use lib.Ieee.{of_bits}
 use Rattle.tetrahedron.specs.Tetrahedron.{vertex_region}
 use Rattle.tetrahedron.proofs.Tetrahedron.vertex_region.Goals as goal

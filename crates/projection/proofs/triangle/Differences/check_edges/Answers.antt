@@ -1,4 +1,4 @@
--- `Differences::check_edges` returns `check_edges`, by its tests in order.
+-- `Differences::check_edges` returns the definition's `check_edges`, by its tests in order.
 use lib.Ieee.{of_bits}
 use Rattle.projection.specs.Triangle.{check_edges}
 use Rattle.projection.proofs.triangle.Differences.check_edges.Goals as goal

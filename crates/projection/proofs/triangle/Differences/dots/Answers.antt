@@ -1,4 +1,4 @@
--- `Differences::dots` returns `dots`, product by product.
+-- `Differences::dots` returns the definition's `dots`, product by product.
 use Rattle.projection.specs.Triangle.{dots}
 use Rattle.projection.proofs.triangle.Differences.dots.Goals as goal
 

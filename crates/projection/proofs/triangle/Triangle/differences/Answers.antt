@@ -1,4 +1,4 @@
--- `Triangle::differences` returns `differences`, side by side.
+-- `Triangle::differences` returns the definition's `differences`, side by side.
 use Rattle.projection.specs.Triangle.{differences}
 use Rattle.projection.proofs.triangle.Triangle.differences.Goals as goal
 

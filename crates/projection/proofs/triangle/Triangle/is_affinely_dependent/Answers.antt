@@ -1,4 +1,4 @@
--- `Triangle::is_affinely_dependent` returns `is_affinely_dependent`, operation by operation.
+-- `Triangle::is_affinely_dependent` returns the definition's `is_affinely_dependent`, operation by operation.
 use lib.Ieee.{of_bits}
 use Rattle.projection.specs.Triangle.{is_affinely_dependent}
 use Rattle.projection.proofs.triangle.Triangle.is_affinely_dependent.Goals as goal

@@ -1,4 +1,4 @@
--- `Triangle::vertex_region` returns `vertex_region`, by its tests in order.
+-- `Triangle::vertex_region` returns the definition's `vertex_region`, by its tests in order.
 use lib.Ieee.{of_bits}
 use Rattle.projection.specs.Triangle.{vertex_region}
 use Rattle.projection.proofs.triangle.Triangle.vertex_region.Goals as goal

@@ -1,4 +1,4 @@
--- `TrianglePointLocation::barycentric_coordinates` returns `barycentric_coordinates`, case by case.
+-- `TrianglePointLocation::barycentric_coordinates` returns the definition's `barycentric_coordinates`, case by case.
 use Rattle.number.proofs.Told.{told}
 use Rattle.projection.specs.Triangle.{barycentric_coordinates}
 use Rattle.projection.proofs.triangle.TrianglePointLocation.barycentric_coordinates.Goals as goal

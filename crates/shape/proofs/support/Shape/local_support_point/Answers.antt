@@ -1,4 +1,4 @@
--- `Shape::local_support_point` returns `local_support_point`.
+-- `Shape::local_support_point` returns the definition's `local_support_point`.
 use Rattle.shape.specs.Support.{local_support_point}
 use Rattle.shape.proofs.support.Shape.local_support_point.Goals as goal
 

@@ -1,4 +1,4 @@
--- `Shape::local_support_point_toward` returns `local_support_point_toward`, shape by shape.
+-- `Shape::local_support_point_toward` returns the definition's `local_support_point_toward`, shape by shape.
 use Rattle.shape.specs.Support.{local_support_point_toward}
 use Rattle.shape.proofs.support.Shape.local_support_point_toward.Goals as goal
 

@@ -1,4 +1,4 @@
--- `Shape::support_point` returns `support_point`, shape by shape: a ball by its own rule, the others by the default over their local answers. Assumes nothing.
+-- `Shape::support_point` returns the definition's `support_point`, shape by shape: a ball by its own rule, the others by the default over their local answers. Assumes nothing.
 use lib.Ieee.{of_bits}
 use Rattle.vector.specs.Vector.{y_v}
 use Rattle.shape.specs.Support.{ball_or, unit_for, local_support_point_toward, local_support_point, in_pose, support_point}

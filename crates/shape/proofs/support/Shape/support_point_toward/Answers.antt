@@ -1,4 +1,4 @@
--- `Shape::support_point_toward` returns `support_point_toward`: a ball by its own rule, the others by the default. Assumes nothing.
+-- `Shape::support_point_toward` returns the definition's `support_point_toward`: a ball by its own rule, the others by the default. Assumes nothing.
 use mathlib.Core.Path.{◌∙◌}
 use Rattle.shape.specs.Support.{ball_or, support_point_toward}
 use Rattle.shape.proofs.Default.{by_default}

@@ -1,4 +1,4 @@
--- `Shape::unit_for` returns `unit_for`, shape by shape.
+-- `Shape::unit_for` returns the definition's `unit_for`, shape by shape.
 use lib.Ieee.{of_bits}
 use Rattle.vector.specs.Vector.{y_v}
 use Rattle.shape.specs.Support.{unit_for}

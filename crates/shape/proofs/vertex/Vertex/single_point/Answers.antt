@@ -1,4 +1,4 @@
--- `Vertex::single_point` returns `single_point`.
+-- `Vertex::single_point` returns the definition's `single_point`.
 use lib.Ieee.{of_bits}
 use Rattle.vector.specs.Vector.{zero_v}
 use Rattle.shape.specs.Vertex.{single_point}

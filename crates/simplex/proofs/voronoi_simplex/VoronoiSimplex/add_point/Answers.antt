@@ -1,4 +1,4 @@
--- `add_point` returns `add_point`: refused at dimension 3, and else by the test of `near_simplex`.
+-- `add_point` returns the definition's `add_point`: refused at dimension 3, and else by the test of `near_simplex`.
 use Rattle.std.proofs.Common.{ap}
 use mathlib.Core.Path.{sym, subst}
 use Prim.Native.Nat.{◌<◌}

@@ -1,4 +1,4 @@
--- `contains_point` returns `contains_point`.
+-- `contains_point` returns the definition's `contains_point`.
 use Rattle.number.proofs.Told.{told}
 use Rattle.simplex.specs.Operations.{contains_point}
 use Rattle.simplex.proofs.Laws.{small}

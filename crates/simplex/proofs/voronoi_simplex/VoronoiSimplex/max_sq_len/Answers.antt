@@ -1,4 +1,4 @@
--- `max_sq_len` returns `max_sq_len`.
+-- `max_sq_len` returns the definition's `max_sq_len`.
 use Rattle.number.proofs.Told.{told}
 use Rattle.simplex.specs.Operations.{max_sq_len}
 use Rattle.simplex.proofs.Laws.{small}

@@ -1,4 +1,4 @@
--- `modify_pnts` returns `modify_pnts`.
+-- `modify_pnts` returns the definition's `modify_pnts`.
 use Rattle.std.proofs.Common.{ap}
 use Rattle.number.proofs.Told.{told}
 use Rattle.simplex.specs.declared.operations.Altered.{Altered}

@@ -1,4 +1,4 @@
--- `prev_point` returns `prev_point`, by its joined test.
+-- `prev_point` returns the definition's `prev_point`, by its joined test.
 use native.Mathlib.Omega.{arith}
 use Rattle.number.proofs.Told.{told}
 use Rattle.simplex.specs.Operations.{prev_point}

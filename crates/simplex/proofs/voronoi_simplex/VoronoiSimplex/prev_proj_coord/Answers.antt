@@ -1,4 +1,4 @@
--- `prev_proj_coord` returns `prev_proj_coord`, by its joined test.
+-- `prev_proj_coord` returns the definition's `prev_proj_coord`, by its joined test.
 use native.Mathlib.Omega.{arith}
 use Rattle.number.proofs.Told.{told}
 use Rattle.simplex.specs.Operations.{prev_proj_coord}

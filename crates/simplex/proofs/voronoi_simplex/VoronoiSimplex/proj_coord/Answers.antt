@@ -1,4 +1,4 @@
--- `proj_coord` returns `proj_coord`, by its joined test.
+-- `proj_coord` returns the definition's `proj_coord`, by its joined test.
 use native.Mathlib.Omega.{arith}
 use Rattle.number.proofs.Told.{told}
 use Rattle.simplex.specs.Operations.{proj_coord}

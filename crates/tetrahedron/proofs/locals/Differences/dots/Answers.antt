@@ -1,4 +1,4 @@
--- `Differences::dots` returns `dots`, product by product.
+-- `Differences::dots` returns the definition's `dots`, product by product.
 use Rattle.tetrahedron.specs.Tetrahedron.{dots}
 use Rattle.tetrahedron.proofs.locals.Differences.dots.Goals as goal
 

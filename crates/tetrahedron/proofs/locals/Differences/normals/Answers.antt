@@ -1,4 +1,4 @@
--- `Differences::normals` returns `normals`, product by product.
+-- `Differences::normals` returns the definition's `normals`, product by product.
 use Rattle.tetrahedron.specs.Tetrahedron.{normals}
 use Rattle.tetrahedron.proofs.locals.Differences.normals.Goals as goal
 

@@ -1,4 +1,4 @@
--- `Edges::sides` returns `sides`, number by number.
+-- `Edges::sides` returns the definition's `sides`, number by number.
 use mathlib.Core.Path.{refl}
 use Rattle.tetrahedron.specs.Tetrahedron.{sides}
 use Rattle.tetrahedron.proofs.locals.Edges.sides.Goals as goal

@@ -1,4 +1,4 @@
--- `Pose::inverse_transform_vector` returns `inverse_transform_vector`.
+-- `Pose::inverse_transform_vector` returns the definition's `inverse_transform_vector`.
 use Rattle.vector.specs.Pose.{inverse_transform_vector}
 use Rattle.vector.proofs.pose.Pose.inverse_transform_vector.Goals as goal
 

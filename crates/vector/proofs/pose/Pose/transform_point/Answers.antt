@@ -1,4 +1,4 @@
--- `Pose::transform_point` returns `transform_point`.
+-- `Pose::transform_point` returns the definition's `transform_point`.
 use Rattle.vector.specs.Pose.{transform_point}
 use Rattle.vector.proofs.pose.Pose.transform_point.Goals as goal
 
