@@ -132,7 +132,3 @@ done-if t h = record { same = rw t h.same }
 pub not_done : {b : Bool} (a : Act Nil) {l : Lists} {c : Tally} → b ≡ false → Does step_out (do_if b a) l c l (Onward c)
 unfolding do_if
 not_done a t = record { same = rw t }
-
--- a place of a function's code, which `search` finds by its type on the way that control took: `(place tie.After-dot (search)).dot.ensures`
-abbrev pub place : (A : Type 0) → A → A
-place A x = x
