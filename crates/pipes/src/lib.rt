@@ -1,11 +1,12 @@
 // What moves the bytes of a program over case files: standard input through one buffer, lines through another to standard
 // output, so that memory does not grow with the file. What is read and written for a record is the program's own.
 // A read that fails, unlike the file's end, ends a run as failed, and so does a write that fails.
-// No contract can say which bytes come in or where they go: those here say how the window and the places of a run move,
-// and which bytes stay.
+// Contracts say how the window and the places of a run move, which bytes stay, and, of a reader and a writer whose bytes
+// are known, that what comes into the buffer is what the reader then has no more, and that what is written is the lines.
 #![tactic(auto)]
 
 ghost use Rattle.std.specs.Prelude.{◌≡◌, true};
+ghost use Rattle.pipes.specs.Bytes.{Gone, TakenBy, Drawn, Gained, Drained, Passed};
 ghost use Rattle.pipes.specs.Pipes.{start_window, enough_of, Kept, Brought, ReadOn, Read, Filled, Written, Roomy, is_open, after_turn, Readied};
 
 use std::io::{Read, Write};
@@ -76,6 +77,7 @@ pub fn start() -> Window
 // One read into the buffer from `at` on.
 fn read_from<R: Read>(stdin: &mut R, input: &mut [u8], at: usize) -> Got
     ensures brought { Brought at result }
+    ensures gone { Gone (R.remaining stdin.old) (R.remaining stdin.new) at input.new result }
     ensures kept { Kept at input.old input.new }
 {
     if input.len() <= at {
@@ -91,6 +93,7 @@ fn read_from<R: Read>(stdin: &mut R, input: &mut [u8], at: usize) -> Got
 // The window with what one read brings.
 fn read_on<R: Read>(stdin: &mut R, input: &mut [u8], w: Window) -> Seen
     ensures read_on { ReadOn w result }
+    ensures taken { TakenBy (R.remaining stdin.old) (R.remaining stdin.new) w input.new result }
     ensures kept { Kept w.until input.old input.new }
 {
     let got = read_from(stdin, input, w.until);
@@ -125,6 +128,7 @@ fn has_enough(w: Window) -> bool
 fn read_enough<R: Read>(stdin: &mut R, input: &mut [u8], w: Window) -> Seen
     requires { w.«from» ≡ 0 }
     ensures read { Read w result }
+    ensures taken { TakenBy (R.remaining stdin.old) (R.remaining stdin.new) w input.new result }
     ensures kept { Kept w.until input.old input.new }
 {
     let mut seen = w;
@@ -145,7 +149,8 @@ fn read_enough<R: Read>(stdin: &mut R, input: &mut [u8], w: Window) -> Seen
 
 // The window with what decides the next record: as it is, or moved to the buffer's start and read on.
 fn filled<R: Read>(stdin: &mut R, input: &mut [u8], w: Window) -> Seen
-    ensures { Filled w input.old input.new result }
+    ensures filled { Filled w input.old input.new result }
+    ensures drawn { Drawn (R.remaining stdin.old) (R.remaining stdin.new) w input.new result }
 {
     if has_enough(w) {
         return Seen::At(w);
@@ -158,7 +163,8 @@ fn filled<R: Read>(stdin: &mut R, input: &mut [u8], w: Window) -> Seen
 
 // The lines up to `place` are written.
 pub fn flushed<W: Write>(stdout: &mut W, out: &[u8], place: usize) -> bool
-    ensures { Written out.now place result }
+    ensures written { Written out.now place result }
+    ensures gained { Gained (W.contents stdout.old) (W.contents stdout.new) out.now place result }
 {
     if out.len() < place {
         return false;
@@ -168,7 +174,8 @@ pub fn flushed<W: Write>(stdout: &mut W, out: &[u8], place: usize) -> bool
 
 // Where there is room for a line: here, or at the start once what is there is written.
 pub fn with_room<W: Write>(stdout: &mut W, out: &[u8], place: usize) -> Room
-    ensures { Roomy out.now place result }
+    ensures roomy { Roomy out.now place result }
+    ensures drained { Drained (W.contents stdout.old) (W.contents stdout.new) out.now place result }
 {
     if place <= NEARLY_FULL {
         return Room::At(place);
@@ -205,7 +212,9 @@ pub fn make_ready<R: Read, W: Write>(
     input: &mut [u8],
     out: &[u8],
 ) -> Ready
-    ensures { Readied state out.now input.old input.new result }
+    ensures readied { Readied state out.now input.old input.new result }
+    ensures passed { Passed (R.remaining stdin.old) (R.remaining stdin.new) (W.contents stdout.old) (W.contents stdout.new)
+        state out.now input.new result }
 {
     let State::Open(given, at) = state else {
         return Ready::Over(state);
