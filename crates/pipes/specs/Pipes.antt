@@ -1,4 +1,4 @@
--- How a run's window on its input and its place in its output, of 65,536 bytes, move. No definition says which bytes a read brings. Definitions only.
+-- How a run's window on its input and its place in its output, of 65,536 bytes, move. Which bytes a reader and a writer are left with is in `Bytes`. Definitions only.
 use Rattle.std.specs.Prelude.{◌≡◌, List, Bool, true, false, cond, ◌⊎◌, ℕ, ◌+◌, ◌<◌, ◌≤◌, ltb, leb, length, take}
 use Rattle.window.specs.declared.Window.{Window}
 use Rattle.window.specs.declared.Turn.{Turn}
@@ -62,7 +62,8 @@ abbrev pub Written : List ℕ → ℕ → Bool → Type 0
 Written o place true = place ≤ length o
 Written o place false = Unit {0}
 
--- the place stays where a line of 209 bytes, the longest, fits after it (`line-length` and `line-fits` of the proofs of `lines`); else what stands before it is written, and the place is the output's start
+-- the place stays where a line of 209 bytes, the longest, fits after it (`line-length` and `line-fits` of the proofs of `lines`); else what stands before it is written,
+-- and the place is the output's start
 abbrev pub room_of : ℕ → Bool → Room
 room_of at written = cond (leb at 65327) (Room.At at) (cond written (Room.At 0) Room.Failed)
 
