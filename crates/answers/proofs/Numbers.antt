@@ -6,8 +6,8 @@ use Rattle.lines.specs.declared.line.Outcome.{Outcome}
 use Rattle.lines.specs.declared.line.Outcome.TheVariants.{ClosestPoints, Proximity, NoIntersection, Penetration, NoAnswer, Panic, NoPlace}
 use Rattle.lines.specs.Lines.{outcome_number}
 use Rattle.vote.specs.declared.Answer.{Answer}
-use Rattle.vote.specs.declared.Verdict.TheVariants.{Refused}
-use Rattle.vote.specs.Vote.{no_answer, verdict_number}
+use Rattle.std.specs.Prelude.{Err}
+use Rattle.vote.specs.Vote.{no_answer, no_agreement, verdict_number}
 use Rattle.answers.specs.Answers.{answer_of, malformed, number_of}
 
 pub number-told : (o : Outcome) → number_of (answer_of o).outcome ≡ outcome_number o
@@ -24,7 +24,7 @@ pub number-malformed : number_of malformed.outcome ≡ 4
 unfolding malformed number_of
 number-malformed = refl
 
-pub number-of-none : number_of no_answer.outcome ≡ verdict_number Refused
+pub number-of-none : number_of no_answer.outcome ≡ verdict_number (Err no_agreement)
 unfolding no_answer number_of
 number-of-none = refl
 

@@ -1,23 +1,23 @@
 -- How shapes, answers and verdicts go over to another language. Definitions only.
-use Rattle.std.specs.Prelude.{cond, ◌||◌, ℕ, eqb}
+use Rattle.std.specs.Prelude.{cond, ◌||◌, ℕ, eqb, Option, Some, None, Result}
+use Rattle.counts.specs.declared.Counts.{Counts}
+use Rattle.counts.specs.Counts.{no_counts}
 use Rattle.vector.specs.declared.vec3.Vec3.{Vec3}
 use Rattle.vector.specs.Vector.{zero_v}
+use Rattle.shape.specs.declared.support.Shape.{Shape}
 use Rattle.shape.specs.declared.support.Shape.TheVariants.{Ball, Cuboid, Capsule, Triangle}
-use Rattle.lines.specs.declared.line.Counts as Lines
 use Rattle.lines.specs.declared.line.Outcome.{Outcome}
 use Rattle.lines.specs.declared.line.Outcome.TheVariants.{ClosestPoints, Proximity, NoIntersection, Penetration, NoAnswer, Panic, NoPlace}
 use Rattle.lines.specs.Lines.{letter_of}
 use Rattle.vote.specs.declared.Answer.{Answer}
-use Rattle.vote.specs.declared.Counts.{Counts}
-use Rattle.vote.specs.declared.Verdict.{Verdict}
+use Rattle.vote.specs.declared.Agreed.{Agreed}
+use Rattle.vote.specs.declared.NoAgreement.{NoAgreement}
 use Rattle.vote.specs.Vote.{verdict_number, verdict_values}
 use Rattle.answers.specs.declared.ShapeRecord.{ShapeRecord}
-use Rattle.answers.specs.declared.MaybeShape.{MaybeShape}
-use Rattle.answers.specs.declared.MaybeShape.TheVariants.{Some, None}
 use Rattle.answers.specs.declared.Voted.{Voted}
 
 -- document 01's kinds: 0 a ball, 1 a cuboid, 2 a capsule, 3 a triangle
-unfoldable pub shape_of : ShapeRecord → MaybeShape
+unfoldable pub shape_of : ShapeRecord → Option Shape
 shape_of g =
     let p = g.p in
     let q = g.q in
@@ -30,21 +30,15 @@ shape_of g =
 abbrev pub answer_with : ℕ → Vec3 → Vec3 → Vec3 → Counts → Answer
 answer_with outcome p1 p2 n c = record { outcome = outcome; point1 = p1; point2 = p2; normal = n; counts = c }
 
-abbrev pub counts_of : Lines.Counts → Counts
-counts_of c = record { expansions = c.expansions; made = c.made; live = c.live; edges = c.edges; missed = c.missed }
-
-abbrev pub no_counts : Counts
-no_counts = record { expansions = 0; made = 0; live = 0; edges = 0; missed = 0 }
-
 -- the values of an outcome under its letter; a direction alone stands where the normal does
 abbrev pub under : ℕ → Outcome → Answer
 under letter (ClosestPoints a b n) = answer_with letter a b n no_counts
 under letter (Proximity n) = answer_with letter zero_v zero_v n no_counts
 under letter (NoIntersection n) = answer_with letter zero_v zero_v n no_counts
-under letter (Penetration a b n c) = answer_with letter a b n (counts_of c)
-under letter (NoAnswer c) = answer_with letter zero_v zero_v zero_v (counts_of c)
+under letter (Penetration a b n c) = answer_with letter a b n c
+under letter (NoAnswer c) = answer_with letter zero_v zero_v zero_v c
 under letter Panic = answer_with letter zero_v zero_v zero_v no_counts
-under letter (NoPlace c) = answer_with letter zero_v zero_v zero_v (counts_of c)
+under letter (NoPlace c) = answer_with letter zero_v zero_v zero_v c
 
 unfoldable pub answer_of : Outcome → Answer
 answer_of o = under (letter_of o) o
@@ -64,5 +58,5 @@ number_of letter =
     (cond (eqb letter 66) 4 5))))
 
 -- a verdict's number, and its values
-unfoldable pub voted_of : Verdict → Voted
+unfoldable pub voted_of : Result Agreed NoAgreement → Voted
 voted_of x = record { number = verdict_number x; odd = (verdict_values x).odd; answer = (verdict_values x).answer }

@@ -2,12 +2,13 @@
 #![tactic(auto)]
 
 ghost use Rattle.std.specs.Prelude.{◌≡◌};
-ghost use Rattle.answers.specs.Answers.{shape_of, answer_with, counts_of, no_counts, answer_of, malformed, voted_of};
+ghost use Rattle.answers.specs.Answers.{shape_of, answer_with, answer_of, malformed, voted_of};
 
+use counts::Counts;
 use lines::Outcome;
 use shape::Shape;
 use vector::Vec3;
-use vote::{Answer, Counts, Verdict};
+use vote::{Agreed, Answer, NoAgreement};
 
 // Document 01's kind of a shape, and its numbers in their order; those that the kind hasn't got are not read.
 #[repr(C)]
@@ -17,12 +18,6 @@ pub struct ShapeRecord {
     pub p: Vec3,
     pub q: Vec3,
     pub r: Vec3,
-}
-
-#[derive(Clone, Copy)]
-pub enum MaybeShape {
-    Some(Shape),
-    None,
 }
 
 // Of three answers: document 01's number, 0 or 5, the odd channel's number, and the answer.
@@ -35,26 +30,17 @@ pub struct Voted {
 }
 
 // None of a kind above 3.
-pub fn shape_of(g: ShapeRecord) -> MaybeShape
+pub fn shape_of(g: ShapeRecord) -> Option<Shape>
     ensures { result ≡ shape_of g }
 {
-    let p = g.p;
-    let q = g.q;
-    let r = g.r;
-    let kind = g.kind;
-    if kind == 0 {
-        return MaybeShape::Some(Shape::Ball(p.x));
+    let ShapeRecord { kind, p, q, r } = g;
+    match kind {
+        0 => Some(Shape::Ball(p.x)),
+        1 => Some(Shape::Cuboid(p.x, p.y, p.z)),
+        2 => Some(Shape::Capsule(p.x, p.y, p.z, q.x, q.y, q.z, r.x)),
+        3 => Some(Shape::Triangle(p.x, p.y, p.z, q.x, q.y, q.z, r.x, r.y, r.z)),
+        _ => None,
     }
-    if kind == 1 {
-        return MaybeShape::Some(Shape::Cuboid(p.x, p.y, p.z));
-    }
-    if kind == 2 {
-        return MaybeShape::Some(Shape::Capsule(p.x, p.y, p.z, q.x, q.y, q.z, r.x));
-    }
-    if kind == 3 {
-        return MaybeShape::Some(Shape::Triangle(p.x, p.y, p.z, q.x, q.y, q.z, r.x, r.y, r.z));
-    }
-    MaybeShape::None
 }
 
 fn answer_with(outcome: u8, point1: Vec3, point2: Vec3, normal: Vec3, counts: Counts) -> Answer
@@ -69,43 +55,19 @@ fn answer_with(outcome: u8, point1: Vec3, point2: Vec3, normal: Vec3, counts: Co
     }
 }
 
-fn counts_of(c: lines::Counts) -> Counts
-    ensures { result ≡ counts_of c }
-{
-    Counts {
-        expansions: c.expansions,
-        made: c.made,
-        live: c.live,
-        edges: c.edges,
-        missed: c.missed,
-    }
-}
-
-fn no_counts() -> Counts
-    ensures { result ≡ no_counts }
-{
-    Counts {
-        expansions: 0,
-        made: 0,
-        live: 0,
-        edges: 0,
-        missed: 0,
-    }
-}
-
 // The letter of the outcome's line, and its values. A direction alone stands where the normal does.
 pub fn answer_of(outcome: Outcome) -> Answer
     ensures { result ≡ answer_of outcome }
 {
     let zero = Vec3::ZERO;
     match outcome {
-        Outcome::ClosestPoints(a, b, n) => answer_with(b'D', a, b, n, no_counts()),
-        Outcome::Proximity(n) => answer_with(b'M', zero, zero, n, no_counts()),
-        Outcome::NoIntersection(n) => answer_with(b'S', zero, zero, n, no_counts()),
-        Outcome::Penetration(a, b, n, c) => answer_with(b'P', a, b, n, counts_of(c)),
-        Outcome::NoAnswer(c) => answer_with(b'N', zero, zero, zero, counts_of(c)),
-        Outcome::Panic => answer_with(b'X', zero, zero, zero, no_counts()),
-        Outcome::NoPlace(c) => answer_with(b'R', zero, zero, zero, counts_of(c)),
+        Outcome::ClosestPoints(a, b, n) => answer_with(b'D', a, b, n, Counts::NONE),
+        Outcome::Proximity(n) => answer_with(b'M', zero, zero, n, Counts::NONE),
+        Outcome::NoIntersection(n) => answer_with(b'S', zero, zero, n, Counts::NONE),
+        Outcome::Penetration(a, b, n, c) => answer_with(b'P', a, b, n, c),
+        Outcome::NoAnswer(c) => answer_with(b'N', zero, zero, zero, c),
+        Outcome::Panic => answer_with(b'X', zero, zero, zero, Counts::NONE),
+        Outcome::NoPlace(c) => answer_with(b'R', zero, zero, zero, c),
     }
 }
 
@@ -113,23 +75,23 @@ pub fn answer_of(outcome: Outcome) -> Answer
 pub fn malformed_answer() -> Answer
     ensures { result ≡ malformed }
 {
-    answer_with(b'B', Vec3::ZERO, Vec3::ZERO, Vec3::ZERO, no_counts())
+    answer_with(b'B', Vec3::ZERO, Vec3::ZERO, Vec3::ZERO, Counts::NONE)
 }
 
 // The verdict of a vote as a record. Where no two agree its answer is zeros, whose outcome, 0, is no letter.
-pub fn voted_of(verdict: Verdict) -> Voted
+pub fn voted_of(verdict: Result<Agreed, NoAgreement>) -> Voted
     ensures { result ≡ voted_of verdict }
 {
     match verdict {
-        Verdict::Agreed { answer, odd } => Voted {
+        Ok(Agreed { answer, odd }) => Voted {
             number: 0,
             odd,
             answer,
         },
-        Verdict::Refused => Voted {
+        Err(NoAgreement) => Voted {
             number: 5,
             odd: 0,
-            answer: answer_with(0, Vec3::ZERO, Vec3::ZERO, Vec3::ZERO, no_counts()),
+            answer: answer_with(0, Vec3::ZERO, Vec3::ZERO, Vec3::ZERO, Counts::NONE),
         },
     }
 }

@@ -1,70 +1,135 @@
-// What a function answers: four sizes, which are a number (a yes or no, document 01's number, or the place of a case in its list), a kind, a
-// count and a place, and ten floats, a number and three vectors. What an answer has not got is zeros.
-use crate::words::{Output, put_floats, put_sizes};
+// What a function answers: a number (a yes or no, document 01's number, or the place of a case in its list), a kind, a count and a place,
+// then a float and three vectors. What an answer has not got is zeros.
+use crate::words::{Output, ToWords};
+use projection::Projection;
+use reduction::Location;
+use refusal::WouldPanic;
 use shape::Vertex;
 use vector::Vec3;
 
 #[derive(Clone, Copy)]
 pub struct Answer {
-    pub sizes: [usize; 4],
-    pub floats: [f32; 10],
+    pub number: usize,
+    pub kind: usize,
+    pub count: usize,
+    pub place: usize,
+    pub float: f32,
+    pub first: Vec3,
+    pub second: Vec3,
+    pub third: Vec3,
 }
 
-pub fn said(number: usize) -> Answer {
-    Answer {
-        sizes: [number, 0, 0, 0],
-        floats: [0.0; 10],
+impl Answer {
+    pub const ZEROS: Answer = Answer {
+        number: 0,
+        kind: 0,
+        count: 0,
+        place: 0,
+        float: 0.0,
+        first: Vec3::ZERO,
+        second: Vec3::ZERO,
+        third: Vec3::ZERO,
+    };
+
+    pub fn numbered(number: usize) -> Answer {
+        Answer {
+            number,
+            ..Answer::ZEROS
+        }
+    }
+
+    pub fn vectors(number: usize, first: Vec3, second: Vec3, third: Vec3) -> Answer {
+        Answer {
+            number,
+            first,
+            second,
+            third,
+            ..Answer::ZEROS
+        }
     }
 }
 
-pub fn of_bool(is: bool) -> Answer {
-    said(if is { 1 } else { 0 })
-}
-
-pub fn of_count(count: usize) -> Answer {
-    Answer {
-        sizes: [0, 0, count, 0],
-        floats: [0.0; 10],
+impl ToWords for Answer {
+    fn put(&self, out: &mut Output) {
+        out.put_list(&[self.number, self.kind, self.count, self.place]);
+        self.float.put(out);
+        out.put_list(&[self.first, self.second, self.third]);
     }
 }
 
-pub fn of_number(x: f32) -> Answer {
-    Answer {
-        sizes: [0; 4],
-        floats: [x, 0.0, 0.0, 0.0, 0.0, 0.0, 0.0, 0.0, 0.0, 0.0],
+// ---- a yes or no, a count, a float, a vector, a vertex
+
+impl From<bool> for Answer {
+    fn from(is: bool) -> Answer {
+        Answer::numbered(usize::from(is))
     }
 }
 
-// A number in its place, a vector, and a float.
-pub fn of_vector(number: usize, p: Vec3, x: f32) -> Answer {
-    Answer {
-        sizes: [number, 0, 0, 0],
-        floats: [x, p.x, p.y, p.z, 0.0, 0.0, 0.0, 0.0, 0.0, 0.0],
+impl From<usize> for Answer {
+    fn from(count: usize) -> Answer {
+        Answer {
+            count,
+            ..Answer::ZEROS
+        }
     }
 }
 
-pub fn of_vectors(number: usize, p: Vec3, q: Vec3, r: Vec3) -> Answer {
-    Answer {
-        sizes: [number, 0, 0, 0],
-        floats: [0.0, p.x, p.y, p.z, q.x, q.y, q.z, r.x, r.y, r.z],
+impl From<f32> for Answer {
+    fn from(float: f32) -> Answer {
+        Answer {
+            float,
+            ..Answer::ZEROS
+        }
     }
 }
 
-pub fn of_vertex(v: Vertex) -> Answer {
-    of_vectors(0, v.point, v.orig1, v.orig2)
-}
-
-// A projection's point; its location's kind (0 vertex, 1 edge, 2 face, 3 solid), number and weights.
-pub fn placed(p: Vec3, kind: usize, place: u32, u: f32, v: f32, w: f32) -> Answer {
-    Answer {
-        sizes: [0, kind, 0, place as usize],
-        floats: [0.0, p.x, p.y, p.z, u, v, w, 0.0, 0.0, 0.0],
+impl From<Vec3> for Answer {
+    fn from(first: Vec3) -> Answer {
+        Answer {
+            first,
+            ..Answer::ZEROS
+        }
     }
 }
 
-pub fn put_answer(out: &mut Output, at: usize, answer: Answer) -> usize {
-    let sizes = answer.sizes;
-    let floats = answer.floats;
-    let next = put_sizes(out, at, &sizes);
-    put_floats(out, next, &floats)
+impl From<Vertex> for Answer {
+    fn from(v: Vertex) -> Answer {
+        Answer::vectors(0, v.point, v.orig1, v.orig2)
+    }
+}
+
+// ---- nothing done, with number 0, and refusal 2
+
+impl From<()> for Answer {
+    fn from(_: ()) -> Answer {
+        Answer::ZEROS
+    }
+}
+
+pub fn or_refused<T: Into<Answer>>(answer: Result<T, WouldPanic>) -> Answer {
+    match answer {
+        Ok(x) => x.into(),
+        Err(WouldPanic) => Answer::numbered(2),
+    }
+}
+
+// ---- a projection's point; its location's kind (0 vertex, 1 edge, 2 face, 3 solid), number and weights
+
+impl<L: Into<Location>> From<Projection<L>> for Answer {
+    fn from(projection: Projection<L>) -> Answer {
+        let Projection { point, location } = projection;
+        let (kind, place, weights) = match location.into() {
+            Location::OnVertex(i) => (0, i, Vec3::ZERO),
+            Location::OnEdge(i, u, v) => (1, i, Vec3::new(u, v, 0.0)),
+            Location::OnFace(i, u, v, w) => (2, i, Vec3::new(u, v, w)),
+            Location::OnSolid => (3, 0, Vec3::ZERO),
+        };
+        Answer {
+            kind,
+            place: place as usize,
+            first: point,
+            second: weights,
+            ..Answer::ZEROS
+        }
+    }
 }

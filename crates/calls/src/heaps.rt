@@ -1,68 +1,70 @@
-// The heap: functions 71 to 73, push, peek and pop. Each has the count, a face and its key, and the two lists. After the answer (document
-// 01's number, 1 where there was an entry, the count, the entry's face and key) come both lists.
-use crate::answers::{Answer, put_answer};
-use crate::stores::{floats_from, length_at, put_first_floats, put_first_sizes, sizes_from};
-use crate::words::{Output, number_at, size_at};
-use heap::{Peeked, Popped, Pushed};
+// The heap: functions 71 to 73, push, peek and pop. Each has the count, a face and its key, and the two lists, of at most 6,144. After the
+// answer (document 01's number, 1 where there was an entry, the count, the entry's face and key) come both lists.
+use crate::answers::Answer;
+use crate::words::{Args, Output, ToWords};
+use heap::{Entry, Popped};
+use refusal::NoRoom;
 
-fn told(number: usize, some: usize, count: usize, face: usize, key: f32) -> Answer {
+fn counted(count: usize) -> Answer {
+    count.into()
+}
+
+fn found(entry: Entry, count: usize) -> Answer {
     Answer {
-        sizes: [number, some, count, face],
-        floats: [key, 0.0, 0.0, 0.0, 0.0, 0.0, 0.0, 0.0, 0.0, 0.0],
+        kind: 1,
+        count,
+        place: entry.face,
+        float: entry.key,
+        ..Answer::ZEROS
     }
 }
 
-fn pushed(answer: Pushed, count: usize) -> Answer {
+// Document 01's number 3.
+fn refused(count: usize) -> Answer {
+    Answer {
+        number: 3,
+        count,
+        ..Answer::ZEROS
+    }
+}
+
+fn pushed(answer: Result<usize, NoRoom>, count: usize) -> Answer {
     match answer {
-        Pushed::Done(n) => told(0, 0, n, 0, 0.0),
-        Pushed::NoRoom => told(3, 0, count, 0, 0.0),
+        Ok(n) => counted(n),
+        Err(NoRoom) => refused(count),
     }
 }
 
-fn peeked(answer: Peeked, count: usize) -> Answer {
+fn peeked(answer: Result<Option<Entry>, NoRoom>, count: usize) -> Answer {
     match answer {
-        Peeked::First { face, key } => told(0, 1, count, face, key),
-        Peeked::Empty => told(0, 0, count, 0, 0.0),
-        Peeked::NoRoom => told(3, 0, count, 0, 0.0),
+        Ok(Some(entry)) => found(entry, count),
+        Ok(None) => counted(count),
+        Err(NoRoom) => refused(count),
     }
 }
 
-fn popped(answer: Popped, count: usize) -> Answer {
+fn popped(answer: Result<Option<Popped>, NoRoom>, count: usize) -> Answer {
     match answer {
-        Popped::First {
-            face,
-            key,
-            count: left,
-        } => told(0, 1, left, face, key),
-        Popped::Empty => told(0, 0, count, 0, 0.0),
-        Popped::NoRoom => told(3, 0, count, 0, 0.0),
+        Ok(Some(popped)) => found(popped.entry, popped.count),
+        Ok(None) => counted(count),
+        Err(NoRoom) => refused(count),
     }
 }
 
-fn push(args: &[u8], count: usize, faces: &mut [usize], keys: &mut [f32]) -> Answer {
-    let face = size_at(args, 2);
-    let key = number_at(args, 4);
-    pushed(heap::push(faces, keys, count, face, key), count)
-}
-
-fn over(function: u32, args: &[u8], faces: &mut [usize], keys: &mut [f32]) -> Answer {
-    let count = size_at(args, 0);
-    if function == 71 {
-        return push(args, count, faces, keys);
-    }
-    if function == 72 {
-        return peeked(heap::peek(faces, keys, count), count);
-    }
-    popped(heap::pop(faces, keys, count), count)
-}
-
-pub fn answer(function: u32, args: &[u8], out: &mut Output, at: usize) -> usize {
-    let n = length_at(args, 6);
-    let m = length_at(args, 8);
-    let mut faces = sizes_from(args, 5, n);
-    let mut keys = floats_from(args, 7, m);
-    let answer = over(function, args, &mut faces[..n], &mut keys[..m]);
-    let b = put_answer(out, at, answer);
-    let c = put_first_sizes(out, b, faces, n);
-    put_first_floats(out, c, keys, m)
+pub fn answer(function: u32, mut args: Args, out: &mut Output) {
+    let count: usize = args.read();
+    let face: usize = args.read();
+    let key: f32 = args.read();
+    let mut faces = [0; 6_144];
+    let mut keys = [0.0; 6_144];
+    let faces: &mut [usize] = args.list(&mut faces);
+    let keys: &mut [f32] = args.list(&mut keys);
+    let answer = match function {
+        71 => pushed(heap::push(faces, keys, count, face, key), count),
+        72 => peeked(heap::peek(faces, keys, count), count),
+        _ => popped(heap::pop(faces, keys, count), count),
+    };
+    answer.put(out);
+    out.put_list(faces);
+    out.put_list(keys);
 }

@@ -1,15 +1,17 @@
 // Numbers and vectors. Each function has the same arguments and takes those it needs: two numbers x and y, two vectors a and b, a pose, and
 // the number of an axis, 2 and any above for z.
-use crate::answers::{Answer, of_bool, of_number, of_vector, said};
-use crate::values::{pose_at, vector_at};
-use crate::words::{number_at, size_at};
-use vector::{Axis, MaybeVec3, Pose, Rotation, Vec3};
+use crate::answers::Answer;
+use crate::words::{Args, FromWords};
+use vector::{Axis, Pose, Rotation, Vec3};
 
-fn axis_of(i: usize) -> Axis {
-    if i == 0 {
-        return Axis::X;
+impl FromWords for Axis {
+    fn read(args: &mut Args<'_>) -> Axis {
+        match args.read::<usize>() {
+            0 => Axis::X,
+            1 => Axis::Y,
+            _ => Axis::Z,
+        }
     }
-    if i == 1 { Axis::Y } else { Axis::Z }
 }
 
 fn number_of(function: u32, x: f32, y: f32, a: Vec3, b: Vec3, axis: Axis) -> f32 {
@@ -31,65 +33,68 @@ fn number_of(function: u32, x: f32, y: f32, a: Vec3, b: Vec3, axis: Axis) -> f32
 }
 
 fn vector_of(function: u32, x: f32, a: Vec3, b: Vec3, pose: Pose, axis: Axis) -> Vec3 {
-    let rotation = pose.rotation;
     match function {
-        13 => a.neg(),
-        14 => a.add(b),
-        15 => a.sub(b),
-        16 => a.scale(x),
-        17 => a.div(x),
+        13 => -a,
+        14 => a + b,
+        15 => a - b,
+        16 => a * x,
+        17 => a / x,
         18 => a.cross(b),
         19 => a.normalize(),
         20 => a.normalize_or(b),
         21 => a.normalize_or_zero(),
         22 => a.with_component(axis, x),
-        23 => rotation.rotate(a),
+        23 => pose.rotation.rotate(a),
         24 => pose.transform_point(a),
         _ => pose.inverse_transform_vector(a),
     }
 }
 
 // 1 and the vector, or 0.
-fn tried(v: MaybeVec3) -> Answer {
+fn tried(v: Option<Vec3>) -> Answer {
     match v {
-        MaybeVec3::Some(p) => of_vector(1, p, 0.0),
-        MaybeVec3::None => said(0),
+        Some(first) => Answer {
+            number: 1,
+            first,
+            ..Answer::ZEROS
+        },
+        None => Answer::ZEROS,
     }
 }
 
 fn inverted(rotation: Rotation) -> Answer {
-    let inverse = rotation.inverse();
-    of_vector(0, Vec3::new(inverse.x, inverse.y, inverse.z), inverse.w)
+    let Rotation { x, y, z, w } = rotation.inverse();
+    Answer {
+        float: w,
+        first: Vec3 { x, y, z },
+        ..Answer::ZEROS
+    }
 }
 
 fn measured(a: Vec3) -> Answer {
     let both = a.normalize_and_length();
-    of_vector(0, both.normalized, both.length)
-}
-
-fn other_of(function: u32, x: f32, a: Vec3, b: Vec3, pose: Pose) -> Answer {
-    match function {
-        26 => of_bool(number::is_finite(x)),
-        27 => of_bool(a.equals(b)),
-        28 => tried(a.try_normalize()),
-        29 => measured(a),
-        _ => inverted(pose.rotation),
+    Answer {
+        float: both.length,
+        first: both.normalized,
+        ..Answer::ZEROS
     }
 }
 
 // Functions 0 to 30.
-pub fn answer(function: u32, args: &[u8]) -> Answer {
-    let x = number_at(args, 0);
-    let y = number_at(args, 1);
-    let a = vector_at(args, 2);
-    let b = vector_at(args, 5);
-    let pose = pose_at(args, 8);
-    let axis = axis_of(size_at(args, 15));
-    if function <= 12 {
-        return of_number(number_of(function, x, y, a, b, axis));
+pub fn answer(function: u32, mut args: Args) -> Answer {
+    let x: f32 = args.read();
+    let y: f32 = args.read();
+    let a: Vec3 = args.read();
+    let b: Vec3 = args.read();
+    let pose: Pose = args.read();
+    let axis: Axis = args.read();
+    match function {
+        0..=12 => number_of(function, x, y, a, b, axis).into(),
+        13..=25 => vector_of(function, x, a, b, pose, axis).into(),
+        26 => number::is_finite(x).into(),
+        27 => (a == b).into(),
+        28 => tried(a.try_normalize()),
+        29 => measured(a),
+        _ => inverted(pose.rotation),
     }
-    if function <= 25 {
-        return of_vector(0, vector_of(function, x, a, b, pose, axis), 0.0);
-    }
-    other_of(function, x, a, b, pose)
 }

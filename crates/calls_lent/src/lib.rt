@@ -8,6 +8,7 @@ ghost use Rattle.simplex.specs.Operations.{reset_simplex, add_point};
 ghost use Rattle.reduction.specs.Reduction.{apply_location, project_origin_and_reduce};
 
 use reduction::{Applied, Location, Projected};
+use refusal::WouldPanic;
 use shape::Vertex;
 use simplex::{Added, Altered, VoronoiSimplex};
 
@@ -15,7 +16,7 @@ use simplex::{Added, Altered, VoronoiSimplex};
 #[derive(Clone, Copy)]
 pub struct Reduced {
     pub simplex: VoronoiSimplex,
-    pub projection: Projected,
+    pub projection: Result<Projected, WouldPanic>,
 }
 
 pub fn reset_lent(s: VoronoiSimplex, pt: Vertex) -> Altered

@@ -4,17 +4,18 @@ use mathlib.Core.Path.{◌≡◌, refl, sym, ap, ◌∙◌}
 use mathlib.Core.List.{List}
 use native.Mathlib.Omega.{arith}
 use lib.Dec.{eqb}
-use lib.ListN.{get_or}
+use lib.ListN.{get_or, take}
+use lib.Seq.{get_or-take}
 use lib.Ieee.{Float, Format, of_bits}
 use Rattle.vector.specs.declared.vec3.Vec3.{Vec3}
 use Rattle.vector.specs.Vector.{vec3}
-use Rattle.vector.specs.declared.pose.Pose.{Pose}
 use Rattle.shape.specs.declared.support.Shape.{Shape}
 use Rattle.shape.specs.declared.support.Shape.TheVariants.{Ball, Cuboid, Capsule, Triangle}
-use Rattle.casefile.specs.declared.records.Reading.{Reading}
-use Rattle.casefile.specs.declared.records.Reading.TheVariants.{At, Bad, Ended}
-use Rattle.casefile.specs.declared.records.CaseAnswer.{CaseAnswer}
-use Rattle.casefile.specs.Records.{Got, got, small_at, numbers_at, Holds, shape_words_at, shape_in, size_of, float_of, vector_of, words_at, pose_of, case_of, answer_of, read_case, shape_at}
+use Rattle.std.specs.Prelude.{Result, Ok, Err}
+use Rattle.casefile.specs.Numbers.{got}
+use Rattle.casefile.specs.declared.numbers.Got.{Got}
+use Rattle.casefile.specs.declared.records.CaseError.{CaseError}
+use Rattle.casefile.specs.Records.{then, small_at, numbers_at, first_words, shape_words_at, shape_in, size_of, float_of, vector_of, words_at, pose_of, case_of, read_case, shape_at}
 
 -- the first n words of two lists are the same
 abbrev pub Same : ℕ → List ℕ → List ℕ → Type 0
@@ -107,47 +108,62 @@ module _ (f : Format) (v w : List ℕ) where
 
 -- ---- a shape, and a record
 
-pub shape-part : (f : Format) (s : List ℕ) (r : Reading) → shape_at f s r ≡ (let k = small_at 3 s r in let n = numbers_at (size_of k.value) s k.reading in got (shape_in f k.value n.value) n.reading)
-unfolding shape_at shape_words_at
-shape-part f s r = refl
-
-pub case-part : (f : Format) (s : List ℕ) (at : ℕ) → read_case f s at
-    ≡ (let a = shape_at f s (At at) in
-    let b = shape_at f s a.reading in
-    let n = numbers_at 11 s b.reading in
-    let e = small_at 1 s n.reading in
-    answer_of (record { g1 = a.value; g2 = b.value; pos12 = pose_of f n.value; dir = vector_of f n.value 7; max_dist = float_of f n.value 10; exact = eqb e.value 1 }) e.reading)
-unfolding read_case words_at case_of shape_at
-case-part f s at = refl
-
 pub few-numbers : (k : ℕ) → size_of k ≤ 11
 few-numbers zero = omega arith
 few-numbers (suc zero) = omega arith
 few-numbers (suc (suc zero)) = omega arith
 few-numbers (suc (suc (suc k))) = omega arith
 
-pub shape-read : (f : Format) (s : List ℕ) (r : Reading) (kind size : ℕ) (after reading : Reading) (words : List ℕ) (value : Shape) →
-    got kind after ≡ small_at 3 s r → size ≡ size_of kind → Holds size words reading (numbers_at size s after) → value ≡ shape_in f kind words → got value reading ≡ shape_at f s r
-shape-read f s r kind size after reading words value is-kind is-size h is-value =
-    let n = numbers_at (size_of kind) s after in
-    let held : Holds (size_of kind) words reading n = rw is-size at h in
-    ap (λ (v : Shape). got v reading) (is-value ∙ same_shape f words n.value kind held.same)
-    ∙ ap (got (shape_in f kind n.value)) held.told
-    ∙ ap (λ (k : Got ℕ). let n = numbers_at (size_of k.value) s k.reading in got (shape_in f k.value n.value) n.reading) is-kind
-    ∙ sym (shape-part f s r)
+-- the first words of an array
+first-same : (n : ℕ) (w : List ℕ) → Same n (take n w) w
+first-same n w i h = get_or-take n w i 0 h
 
-module _ (f : Format) (s : List ℕ) (at : ℕ) (g1 g2 : Shape) (r1 r2 r3 r4 : Reading) (words : List ℕ) (flag : ℕ) (first : got g1 r1 ≡ shape_at f s (At at)) (second : got g2 r2 ≡ shape_at f s r1) (h : Holds 11 words r3 (numbers_at 11 s r2)) (last : got flag r4 ≡ small_at 1 s r3) where
-  case-read : read_case f s at ≡ answer_of (record { g1 = g1; g2 = g2; pos12 = pose_of f words; dir = vector_of f words 7; max_dist = float_of f words 10; exact = eqb flag 1 }) r4
-  case-read =
-      let n = numbers_at 11 s r2 in
-      simp (case-part, ← first, ← second, ← h.told, ← last, same-pose f words n.value h.same, same-dir f words n.value h.same, same-dist f words n.value h.same)
+pub shape-read : (f : Format) (s : List ℕ) (p : ℕ) (kind : Got ℕ) (words : Got (List ℕ)) (value : Shape) →
+    Ok kind ≡ small_at 3 s p → first_words (size_of kind.value) (Ok words) ≡ numbers_at (size_of kind.value) s kind.next → value ≡ shape_in f kind.value words.value → Ok (got value words.next) ≡ shape_at f s p
+unfolding shape_at shape_words_at
+shape-read f s p kind words value is-kind is-words is-value =
+    let n = size_of kind.value in
+    rw (← is-kind, ← is-words, is-value, same_shape f (take n words.value) words.value kind.value (first-same n words.value))
 
-  pub whole-read : (p : Pose) (d : Vec3) (m : Float) (next : ℕ) → p ≡ pose_of f words → d ≡ vector_of f words 7 → m ≡ float_of f words 10 → r4 ≡ At next →
-      CaseAnswer.Whole (record { g1 = g1; g2 = g2; pos12 = p; dir = d; max_dist = m; exact = eqb flag 1 }) next ≡ read_case f s at
-  whole-read p d m next is-p is-d is_m ends = simp (case-read, is-p, is-d, is_m, ends)
+pub no-kind : (f : Format) (s : List ℕ) (p : ℕ) (e : CaseError) → Err e ≡ small_at 3 s p → Err e ≡ shape_at f s p
+unfolding shape_at shape_words_at
+no-kind f s p e h = rw (← h)
 
-  pub bad-read : (p : ℕ) → r4 ≡ Bad p → CaseAnswer.Malformed p ≡ read_case f s at
-  bad-read p ends = simp (case-read, ends)
+pub no-numbers : (f : Format) (s : List ℕ) (p : ℕ) (kind : Got ℕ) (e : CaseError) → Ok kind ≡ small_at 3 s p → Err e ≡ numbers_at (size_of kind.value) s kind.next → Err e ≡ shape_at f s p
+unfolding shape_at shape_words_at
+no-numbers f s p kind e is-kind h = rw (← is-kind, ← h)
 
-  pub ended-read : r4 ≡ Ended → CaseAnswer.Ended ≡ read_case f s at
-  ended-read ends = simp (case-read, ends)
+then-then : {A B C : Type 0} (x : Result (Got A) CaseError) (f : A → ℕ → Result (Got B) CaseError) (g : B → ℕ → Result (Got C) CaseError) → then (then x f) g ≡ then x (λ v q. then (f v q) g)
+then-then (Ok x) f g = refl
+then-then (Err e) f g = refl
+
+pub case-part : (f : Format) (s : List ℕ) (at : ℕ) → read_case f s at
+    ≡ then (shape_at f s at) (λ a q.
+    then (shape_at f s q) (λ b r.
+    then (numbers_at 11 s r) (λ w t.
+    then (small_at 1 s t) (λ e u.
+    Ok (got (record { g1 = a; g2 = b; pos12 = pose_of f w; dir = vector_of f w 7; max_dist = float_of f w 10; exact = eqb e 1 }) u)))))
+unfolding read_case words_at case_of shape_at
+case-part f s at = simp then-then
+
+module _ (f : Format) (s : List ℕ) (at : ℕ) where
+  pub case-read : (a b : Got Shape) (words : Got (List ℕ)) (flag : Got ℕ) →
+      Ok a ≡ shape_at f s at → Ok b ≡ shape_at f s a.next → first_words 11 (Ok words) ≡ numbers_at 11 s b.next → Ok flag ≡ small_at 1 s words.next →
+      Ok (got (record { g1 = a.value; g2 = b.value; pos12 = pose_of f words.value; dir = vector_of f words.value 7; max_dist = float_of f words.value 10; exact = eqb flag.value 1 }) flag.next) ≡ read_case f s at
+  case-read a b words flag is-a is_b is-words is-flag =
+      let h = first-same 11 words.value in
+      let w = take 11 words.value in
+      rw (case-part f s at, ← is-a, ← is_b, ← is-words, ← is-flag, same-pose f w words.value h, same-dir f w words.value h, same-dist f w words.value h)
+
+  pub no-first : (e : CaseError) → Err e ≡ shape_at f s at → Err e ≡ read_case f s at
+  no-first e h = rw (case-part f s at, ← h)
+
+  pub no-second : (a : Got Shape) (e : CaseError) → Ok a ≡ shape_at f s at → Err e ≡ shape_at f s a.next → Err e ≡ read_case f s at
+  no-second a e is-a h = rw (case-part f s at, ← is-a, ← h)
+
+  pub no-words : (a b : Got Shape) (e : CaseError) → Ok a ≡ shape_at f s at → Ok b ≡ shape_at f s a.next → Err e ≡ numbers_at 11 s b.next → Err e ≡ read_case f s at
+  no-words a b e is-a is_b h = rw (case-part f s at, ← is-a, ← is_b, ← h)
+
+  pub no-flag : (a b : Got Shape) (words : Got (List ℕ)) (e : CaseError) →
+      Ok a ≡ shape_at f s at → Ok b ≡ shape_at f s a.next → first_words 11 (Ok words) ≡ numbers_at 11 s b.next → Err e ≡ small_at 1 s words.next → Err e ≡ read_case f s at
+  no-flag a b words e is-a is_b is-words h = rw (case-part f s at, ← is-a, ← is_b, ← is-words, ← h)

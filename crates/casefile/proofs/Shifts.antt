@@ -9,55 +9,45 @@ use lib.ListN.{length, drop}
 use lib.Seq.{drop-append-add}
 use lib.Dec.{ltb, leb, eqb}
 use lib.Ieee.{Format}
-use Rattle.casefile.specs.declared.numbers.NumberAnswer.{NumberAnswer}
-use Rattle.casefile.specs.declared.records.Case.{Case}
-use Rattle.casefile.specs.declared.records.CaseAnswer.{CaseAnswer}
-use Rattle.casefile.specs.declared.records.Reading.{Reading}
-use Rattle.casefile.specs.declared.records.Reading.TheVariants.{At, Bad, Ended}
-use Rattle.casefile.specs.Numbers.{joined, later_in, first_of, decode_number}
-use Rattle.casefile.specs.Records.{Got, got, number_of, number_at, spoiled, small_at, numbers_at, size_of, shape_words_at, words_at, case_of, answer_of, read_case}
+use Rattle.std.specs.Prelude.{Result, Ok, Err}
+use Rattle.casefile.specs.declared.numbers.Got.{Got}
+use Rattle.casefile.specs.declared.numbers.NumberError.{NumberError}
+use Rattle.casefile.specs.declared.records.CaseError.{CaseError}
+use Rattle.casefile.specs.declared.records.CaseError.TheVariants.{Malformed, Ended}
+use Rattle.casefile.specs.Numbers.{got, read, joined, later_in, first_of, decode_number}
+use Rattle.casefile.specs.Records.{then, number_of, number_at, small_at, numbers_at, size_of, shape_words_at, words_at, read_case}
 
 -- ---- the same answer, its places k further on
 
-abbrev moved_number : ℕ → NumberAnswer → NumberAnswer
-moved_number k (NumberAnswer.Read v next) = NumberAnswer.Read v (k + next)
-moved_number k NumberAnswer.Bad = NumberAnswer.Bad
-moved_number k NumberAnswer.Ended = NumberAnswer.Ended
+abbrev moved_number : ℕ → Result (Got ℕ) NumberError → Result (Got ℕ) NumberError
+moved_number k (Ok g) = read g.value (k + g.next)
+moved_number k (Err e) = Err e
 
-abbrev moved_reading : ℕ → Reading → Reading
-moved_reading k (At p) = At (k + p)
-moved_reading k (Bad p) = Bad (k + p)
-moved_reading k Ended = Ended
-
-abbrev moved_got : {A : Type 0} → ℕ → Got A → Got A
-moved_got k x = got x.value (moved_reading k x.reading)
-
-abbrev pub moved_case : ℕ → CaseAnswer → CaseAnswer
-moved_case k (CaseAnswer.Whole c next) = CaseAnswer.Whole c (k + next)
-moved_case k (CaseAnswer.Malformed p) = CaseAnswer.Malformed (k + p)
-moved_case k CaseAnswer.Ended = CaseAnswer.Ended
+abbrev pub moved : {A : Type 0} → ℕ → Result (Got A) CaseError → Result (Got A) CaseError
+moved k (Ok g) = Ok (got g.value (k + g.next))
+moved k (Err (Malformed p)) = Err (Malformed (k + p))
+moved k (Err Ended) = Err Ended
 
 -- ---- a number
 
-moved-joined : (k low : ℕ) (x : NumberAnswer) → joined low (moved_number k x) ≡ moved_number k (joined low x)
-moved-joined k low (NumberAnswer.Read v next) = refl
-moved-joined k low NumberAnswer.Bad = refl
-moved-joined k low NumberAnswer.Ended = refl
+moved-joined : (k low : ℕ) (x : Result (Got ℕ) NumberError) → joined low (moved_number k x) ≡ moved_number k (joined low x)
+moved-joined k low (Ok g) = refl
+moved-joined k low (Err e) = refl
 
 -- a group's end is a place further on
-after-group : (k at v : ℕ) → NumberAnswer.Read v (k + at + 1) ≡ NumberAnswer.Read v (k + (at + 1))
-after-group k at v = ap (NumberAnswer.Read v) (add_assoc k at 1)
+after-group : (k at v : ℕ) → read v (k + at + 1) ≡ read v (k + (at + 1))
+after-group k at v = ap (read v) (add_assoc k at 1)
 
 -- by the tests on a group that another may follow
-moved-group : (p q : Bool) (k at v low : ℕ) (x y : NumberAnswer) → x ≡ moved_number k y
-    → cond p NumberAnswer.Bad (cond q (NumberAnswer.Read v (k + at + 1)) (joined low x)) ≡ moved_number k (cond p NumberAnswer.Bad (cond q (NumberAnswer.Read v (at + 1)) (joined low y)))
+moved-group : (p q : Bool) (k at v low : ℕ) (x y : Result (Got ℕ) NumberError) → x ≡ moved_number k y
+    → cond p (Err NumberError.Malformed) (cond q (read v (k + at + 1)) (joined low x)) ≡ moved_number k (cond p (Err NumberError.Malformed) (cond q (read v (at + 1)) (joined low y)))
 moved-group true q k at v low x y e = refl
 moved-group false true k at v low x y e = after-group k at v
 moved-group false false k at v low x y e = ap (joined low) e ∙ moved-joined k low y
 
 -- and on the last
 moved-last : (p q : Bool) (k at v : ℕ)
-    → cond p NumberAnswer.Bad (cond q (NumberAnswer.Read v (k + at + 1)) NumberAnswer.Bad) ≡ moved_number k (cond p NumberAnswer.Bad (cond q (NumberAnswer.Read v (at + 1)) NumberAnswer.Bad))
+    → cond p (Err NumberError.Malformed) (cond q (read v (k + at + 1)) (Err NumberError.Malformed)) ≡ moved_number k (cond p (Err NumberError.Malformed) (cond q (read v (at + 1)) (Err NumberError.Malformed)))
 moved-last true q k at v = refl
 moved-last false true k at v = after-group k at v
 moved-last false false k at v = refl
@@ -87,54 +77,45 @@ module _ (front s : List ℕ) where
 
   -- ---- a record
 
-  moved-number-of : (p : ℕ) (x : NumberAnswer) → number_of (k + p) (moved_number k x) ≡ moved_got k (number_of p x)
-  moved-number-of p (NumberAnswer.Read v next) = refl
-  moved-number-of p NumberAnswer.Bad = refl
-  moved-number-of p NumberAnswer.Ended = refl
+  moved-number-of : (p : ℕ) (x : Result (Got ℕ) NumberError) → number_of (k + p) (moved_number k x) ≡ moved k (number_of p x)
+  moved-number-of p (Ok g) = refl
+  moved-number-of p (Err NumberError.Malformed) = refl
+  moved-number-of p (Err NumberError.Ended) = refl
 
-  moved-number : (r : Reading) → number_at whole (moved_reading k r) ≡ moved_got k (number_at s r)
+  moved-number : (p : ℕ) → number_at whole (k + p) ≡ moved k (number_at s p)
   unfolding number_at
-  moved-number (At p) = ap (number_of (k + p)) (moved-decode p) ∙ moved-number-of p (decode_number s p)
-  moved-number (Bad p) = refl
-  moved-number Ended = refl
+  moved-number p = ap (number_of (k + p)) (moved-decode p) ∙ moved-number-of p (decode_number s p)
 
-  moved-spoiled : (r : Reading) → spoiled (moved_reading k r) ≡ moved_reading k (spoiled r)
-  moved-spoiled (At p) = refl
-  moved-spoiled (Bad p) = refl
-  moved-spoiled Ended = refl
+  then-moved : {A B : Type 0} (x : Result (Got A) CaseError) (f' f : A → ℕ → Result (Got B) CaseError) → ((v : A) (q : ℕ) → f' v (k + q) ≡ moved k (f v q)) → then (moved k x) f' ≡ moved k (then x f)
+  then-moved (Ok g) f' f h = h g.value g.next
+  then-moved (Err (Malformed p)) f' f h = refl
+  then-moved (Err Ended) f' f h = refl
 
-  moved-pick : (t : Bool) (x y : Got ℕ) → cond t (moved_got k x) (moved_got k y) ≡ moved_got k (cond t x y)
-  moved-pick true x y = refl
-  moved-pick false x y = refl
+  moved-pick : (t : Bool) (v q p : ℕ) → cond t (Ok (got v (k + q))) (Err (Malformed (k + p))) ≡ moved k (cond t (Ok (got v q)) (Err (Malformed p)))
+  moved-pick true v q p = refl
+  moved-pick false v q p = refl
 
-  moved-small : (top : ℕ) (r : Reading) → small_at top whole (moved_reading k r) ≡ moved_got k (small_at top s r)
+  moved-small : (top p : ℕ) → small_at top whole (k + p) ≡ moved k (small_at top s p)
   unfolding small_at
-  moved-small top r = rw (moved-number r, moved-spoiled r) (moved-pick (leb (number_at s r).value top) (number_at s r) (got 0 (spoiled r)))
+  moved-small top p = rw (moved-number p) (then-moved (number_at s p) _ _ (λ v q. moved-pick (leb v top) v q p))
 
-  moved-numbers : (n : ℕ) (r : Reading) → numbers_at n whole (moved_reading k r) ≡ moved_got k (numbers_at n s r)
+  moved-numbers : (n p : ℕ) → numbers_at n whole (k + p) ≡ moved k (numbers_at n s p)
   unfolding numbers_at
-  moved-numbers zero r = refl
-  moved-numbers (suc n) r = rw (moved-number r, moved-numbers n (number_at s r).reading) refl
+  moved-numbers zero p = refl
+  moved-numbers (suc n) p = rw (moved-number p) (then-moved (number_at s p) _ _ (λ v q. rw (moved-numbers n q) (then-moved (numbers_at n s q) _ _ (λ w r. refl))))
 
-  moved-shape : (r : Reading) → shape_words_at whole (moved_reading k r) ≡ moved_got k (shape_words_at s r)
+  moved-shape : (p : ℕ) → shape_words_at whole (k + p) ≡ moved k (shape_words_at s p)
   unfolding shape_words_at
-  moved-shape r = let x = small_at 3 s r in rw (moved-small 3 r, moved-numbers (size_of x.value) x.reading) refl
+  moved-shape p = rw (moved-small 3 p) (then-moved (small_at 3 s p) _ _ (λ v q. rw (moved-numbers (size_of v) q) (then-moved (numbers_at (size_of v) s q) _ _ (λ w r. refl))))
 
-  moved-words : (r : Reading) → words_at whole (moved_reading k r) ≡ moved_got k (words_at s r)
+  moved-words : (p : ℕ) → words_at whole (k + p) ≡ moved k (words_at s p)
   unfolding words_at
-  moved-words r =
-      let a = shape_words_at s r in
-      let b = shape_words_at s a.reading in
-      let n = numbers_at 11 s b.reading in
-      rw (moved-shape r, moved-shape a.reading, moved-numbers 11 b.reading, moved-small 1 n.reading) refl
+  moved-words p =
+      rw (moved-shape p) (then-moved (shape_words_at s p) _ _
+      (λ a q. rw (moved-shape q) (then-moved (shape_words_at s q) _ _
+      (λ b r. rw (moved-numbers 11 r) (then-moved (numbers_at 11 s r) _ _
+      (λ w t. rw (moved-small 1 t) (then-moved (small_at 1 s t) _ _ (λ e u. refl))))))))
 
-  moved-answer : (c : Case) (r : Reading) → answer_of c (moved_reading k r) ≡ moved_case k (answer_of c r)
-  moved-answer c (At p) = refl
-  moved-answer c (Bad p) = refl
-  moved-answer c Ended = refl
-
-pub shifted-case : (f : Format) (front s : List ℕ) (at : ℕ) → read_case f (front ++ s) (length front + at) ≡ moved_case (length front) (read_case f s at)
+pub shifted-case : (f : Format) (front s : List ℕ) (at : ℕ) → read_case f (front ++ s) (length front + at) ≡ moved (length front) (read_case f s at)
 unfolding read_case
-shifted-case f front s at =
-    let w = words_at s (At at) in
-    rw (moved-words front s (At at)) (moved-answer front s (case_of f w.value) w.reading)
+shifted-case f front s at = rw (moved-words front s at) (then-moved front s (words_at s at) _ _ (λ w q. refl))

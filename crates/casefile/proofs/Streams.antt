@@ -1,7 +1,7 @@
 -- A record read from a part of a file: what the bytes at hand decide, more bytes do not change (`longer`), and 160 bytes always decide (`enough`): so a program reads
 -- a file through a buffer of 160 bytes. By the numbers of a record, of at most five bytes each. Assumes nothing.
 use Prim.Native.Nat.{ℕ, zero, suc, ◌+◌, ◌*◌, ◌%◌, ◌<◌, ◌≤◌}
-use mathlib.Core.Path.{◌≡◌, refl, ap, ◌∙◌}
+use mathlib.Core.Path.{◌≡◌, refl, ap}
 use mathlib.Core.Bool.{Bool, true, false, cond}
 use mathlib.Core.List.{List, [], ◌∷◌, ◌++◌}
 use native.Mathlib.Omega.{arith}
@@ -9,40 +9,40 @@ use lib.ListN.{length, drop, length-drop}
 use lib.Seq.{drop-append-le}
 use lib.Dec.{ltb, leb, eqb}
 use lib.Ieee.{Format}
-use borrow.Author.Tests.{ltb-true, ltb-false, le-leb}
-use Rattle.casefile.specs.declared.numbers.NumberAnswer.{NumberAnswer}
-use Rattle.casefile.specs.declared.records.Case.{Case}
-use Rattle.casefile.specs.declared.records.CaseAnswer.{CaseAnswer}
-use Rattle.casefile.specs.declared.records.Reading.{Reading}
-use Rattle.casefile.specs.declared.records.Reading.TheVariants.{At, Bad, Ended}
-use Rattle.casefile.specs.Numbers.{joined, later_in, first_of, decode_number}
-use Rattle.casefile.specs.Records.{Got, got, number_of, number_at, spoiled, small_at, numbers_at, size_of, shape_words_at, words_at, case_of, answer_of, read_case}
+use borrow.Author.Tests.{ltb-true, ltb-false}
+use Rattle.std.specs.Prelude.{Result, Ok, Err}
+use Rattle.casefile.specs.declared.numbers.Got.{Got}
+use Rattle.casefile.specs.declared.numbers.NumberError.{NumberError}
+use Rattle.casefile.specs.declared.records.CaseError.{CaseError}
+use Rattle.casefile.specs.declared.records.CaseError.TheVariants.{Malformed, Ended}
+use Rattle.casefile.specs.Numbers.{got, joined, later_in, first_of, decode_number}
+use Rattle.casefile.specs.Records.{then, number_of, number_at, small_at, numbers_at, size_of, shape_words_at, words_at, case_of, read_case}
 use Rattle.casefile.proofs.Groups.{first_ended}
 
 -- ---- more bytes: numbers
 
-abbrev NoEnd : NumberAnswer → Type 0
-NoEnd x = x ≡ NumberAnswer.Ended → ⊥
+abbrev Goes : Result (Got ℕ) NumberError → Type 0
+Goes x = x ≡ Err NumberError.Ended → ⊥
 
 -- by the tests on a group
-longer-at : (p q : Bool) (l : ℕ) (r x y : NumberAnswer) → (NoEnd y → x ≡ y) → NoEnd (cond p NumberAnswer.Bad (cond q r (joined l y))) → cond p NumberAnswer.Bad (cond q r (joined l x)) ≡ cond p NumberAnswer.Bad (cond q r (joined l y))
+longer-at : (p q : Bool) (l : ℕ) (r x y : Result (Got ℕ) NumberError) → (Goes y → x ≡ y) → Goes (cond p (Err NumberError.Malformed) (cond q r (joined l y))) → cond p (Err NumberError.Malformed) (cond q r (joined l x)) ≡ cond p (Err NumberError.Malformed) (cond q r (joined l y))
 longer-at true q l r x y f h = refl
 longer-at false true l r x y f h = refl
 longer-at false false l r x y f h = ap (joined l) (f (λ e. h (ap (joined l) e)))
 
-later-longer : (n : ℕ) (s t : List ℕ) (at : ℕ) → NoEnd (later_in n s at) → later_in n (s ++ t) at ≡ later_in n s at
+later-longer : (n : ℕ) (s t : List ℕ) (at : ℕ) → Goes (later_in n s at) → later_in n (s ++ t) at ≡ later_in n s at
 unfolding later_in
 later-longer zero [] t at h = absurd (h refl)
 later-longer zero (b ∷ s) t at h = refl
 later-longer (suc n) [] t at h = absurd (h refl)
 later-longer (suc n) (b ∷ s) t at h = longer-at (eqb b 0) (ltb b 128) (b % 128) _ _ _ (later-longer n s t (at + 1)) h
 
-first-longer : (s t : List ℕ) (at : ℕ) → NoEnd (first_of s at) → first_of (s ++ t) at ≡ first_of s at
+first-longer : (s t : List ℕ) (at : ℕ) → Goes (first_of s at) → first_of (s ++ t) at ≡ first_of s at
 unfolding first_of
 first-longer [] t at h = absurd (h refl)
 first-longer (b ∷ s) t at h = longer-at false (ltb b 128) (b % 128) _ _ _ (later-longer 3 s t (at + 1)) h
 
-decode-longer-at : (s t : List ℕ) (at : ℕ) (d : Bool) → ltb at (length s) ≡ d → NoEnd (decode_number s at) → decode_number (s ++ t) at ≡ decode_number s at
+decode-longer-at : (s t : List ℕ) (at : ℕ) (d : Bool) → ltb at (length s) ≡ d → Goes (decode_number s at) → decode_number (s ++ t) at ≡ decode_number s at
 unfolding decode_number
 decode-longer-at s t at true e h =
     let l = ltb-true at (length s) e in
@@ -50,104 +50,64 @@ decode-longer-at s t at true e h =
     rw (drop-append-le at s t k) (first-longer (drop at s) t at h)
 decode-longer-at s t at false e h = absurd (h (first_ended s at (ltb-false at (length s) e)))
 
-decode-longer : (s t : List ℕ) (at : ℕ) → NoEnd (decode_number s at) → decode_number (s ++ t) at ≡ decode_number s at
+decode-longer : (s t : List ℕ) (at : ℕ) → Goes (decode_number s at) → decode_number (s ++ t) at ≡ decode_number s at
 decode-longer s t at h = decode-longer-at s t at (ltb at (length s)) refl h
 
 -- ---- more bytes: records
 
-abbrev Goes : Reading → Type 0
-Goes r = r ≡ Ended → ⊥
+abbrev NoEnd : {A : Type 0} → Result (Got A) CaseError → Type 0
+NoEnd x = x ≡ Err Ended → ⊥
 
-no-at : {p : ℕ} → At p ≡ Ended → ⊥
-no-at e = let z : ◌≡◌ {A = ℕ} 0 1 = cc in omega arith
+then-longer : {A B : Type 0} (x' x : Result (Got A) CaseError) (f' f : A → ℕ → Result (Got B) CaseError) → (NoEnd x → x' ≡ x) → ((v : A) (q : ℕ) → NoEnd (f v q) → f' v q ≡ f v q) → NoEnd (then x f) → then x' f' ≡ then x f
+then-longer x' (Ok g) f' f h k n = rw (h (λ e. cc)) (k g.value g.next n)
+then-longer x' (Err e) f' f h k n = rw (h (λ z. n (cc)))
 
-no-bad : {p : ℕ} → Bad p ≡ Ended → ⊥
-no-bad e = let z : ◌≡◌ {A = ℕ} 0 1 = cc in omega arith
-
-number-longer : (s t : List ℕ) (r : Reading) → Goes (number_at s r).reading → number_at (s ++ t) r ≡ number_at s r
+number-longer : (s t : List ℕ) (p : ℕ) → NoEnd (number_at s p) → number_at (s ++ t) p ≡ number_at s p
 unfolding number_at
-number-longer s t (At p) h = ap (number_of p) (decode-longer s t p (λ e. h (ap (λ (x : NumberAnswer). (number_of p x).reading) e)))
-number-longer s t (Bad p) h = refl
-number-longer s t Ended h = refl
+number-longer s t p h = ap (number_of p) (decode-longer s t p (λ e. h (ap (number_of p) e)))
 
-ended_at : (p : ℕ) (x : NumberAnswer) → (number_of p x).reading ≡ Ended → number_of p x ≡ got 0 Ended
-ended_at p (NumberAnswer.Read v next) e = absurd (no-at e)
-ended_at p NumberAnswer.Bad e = absurd (no-bad e)
-ended_at p NumberAnswer.Ended e = refl
-
-number-ended : (s : List ℕ) (r : Reading) → (number_at s r).reading ≡ Ended → number_at s r ≡ got 0 Ended
-unfolding number_at
-number-ended s (At p) e = ended_at p (decode_number s p) e
-number-ended s (Bad p) e = absurd (no-bad e)
-number-ended s Ended e = refl
-
-small-longer : (top : ℕ) (s t : List ℕ) (r : Reading) → Goes (small_at top s r).reading → small_at top (s ++ t) r ≡ small_at top s r
+small-longer : (top : ℕ) (s t : List ℕ) (p : ℕ) → NoEnd (small_at top s p) → small_at top (s ++ t) p ≡ small_at top s p
 unfolding small_at
-small-longer top s t r h =
-    let z = le-leb 0 top (omega arith) in
-    rw (number-longer s t r (λ e. h (rw (number-ended s r e, z) refl)))
+small-longer top s t p h = then-longer _ _ _ _ (number-longer s t p) (λ v q n. refl) h
 
-small-stays : (top : ℕ) (s : List ℕ) → (small_at top s Ended).reading ≡ Ended
-unfolding small_at number_at
-small-stays top s = rw (le-leb 0 top (omega arith))
-
-numbers_stay : (n : ℕ) (s : List ℕ) → (numbers_at n s Ended).reading ≡ Ended
-unfolding numbers_at number_at
-numbers_stay zero s = refl
-numbers_stay (suc n) s = numbers_stay n s
-
-numbers-longer : (n : ℕ) (s t : List ℕ) (r : Reading) → Goes (numbers_at n s r).reading → numbers_at n (s ++ t) r ≡ numbers_at n s r
+numbers-longer : (n : ℕ) (s t : List ℕ) (p : ℕ) → NoEnd (numbers_at n s p) → numbers_at n (s ++ t) p ≡ numbers_at n s p
 unfolding numbers_at
-numbers-longer zero s t r h = refl
-numbers-longer (suc n) s t r h =
-    let a = number-longer s t r (λ e. h (ap (λ (q : Reading). (numbers_at n s q).reading) e ∙ numbers_stay n s)) in
-    rw (a, numbers-longer n s t (number_at s r).reading h)
+numbers-longer zero s t p h = refl
+numbers-longer (suc n) s t p h = then-longer _ _ _ _ (number-longer s t p) (λ v q k. then-longer _ _ _ _ (numbers-longer n s t q) (λ w r z. refl) k) h
 
-shape-longer : (s t : List ℕ) (r : Reading) → Goes (shape_words_at s r).reading → shape_words_at (s ++ t) r ≡ shape_words_at s r
+shape-longer : (s t : List ℕ) (p : ℕ) → NoEnd (shape_words_at s p) → shape_words_at (s ++ t) p ≡ shape_words_at s p
 unfolding shape_words_at
-shape-longer s t r h =
-    let k = small_at 3 s r in
-    let a = small-longer 3 s t r (λ e. h (ap (λ (q : Reading). (numbers_at (size_of k.value) s q).reading) e ∙ numbers_stay (size_of k.value) s)) in
-    rw (a, numbers-longer (size_of k.value) s t k.reading h)
+shape-longer s t p h = then-longer _ _ _ _ (small-longer 3 s t p) (λ k q n. then-longer _ _ _ _ (numbers-longer (size_of k) s t q) (λ w r z. refl) n) h
 
-shape-stays : (s : List ℕ) → (shape_words_at s Ended).reading ≡ Ended
-unfolding shape_words_at
-shape-stays s = rw (small-stays 3 s) (numbers_stay _ s)
-
-words-longer : (s t : List ℕ) (r : Reading) → Goes (words_at s r).reading → words_at (s ++ t) r ≡ words_at s r
+words-longer : (s t : List ℕ) (p : ℕ) → NoEnd (words_at s p) → words_at (s ++ t) p ≡ words_at s p
 unfolding words_at
-words-longer s t r h =
-    let a = shape_words_at s r in
-    let b = shape_words_at s a.reading in
-    let n = numbers_at 11 s b.reading in
-    let en : Goes n.reading = λ e. h (ap (λ (q : Reading). (small_at 1 s q).reading) e ∙ small-stays 1 s) in
-    let eb : Goes b.reading = λ e. en (ap (λ (q : Reading). (numbers_at 11 s q).reading) e ∙ numbers_stay 11 s) in
-    let ea : Goes a.reading = λ e. eb (ap (λ (q : Reading). (shape_words_at s q).reading) e ∙ shape-stays s) in
-    rw (shape-longer s t r ea, shape-longer s t a.reading eb, numbers-longer 11 s t b.reading en, small-longer 1 s t n.reading h)
+words-longer s t p h =
+    then-longer _ _ _ _ (shape-longer s t p)
+    (λ a q n. then-longer _ _ _ _ (shape-longer s t q)
+    (λ b r n. then-longer _ _ _ _ (numbers-longer 11 s t r)
+    (λ w u n. then-longer _ _ _ _ (small-longer 1 s t u) (λ e v n. refl) n) n) n) h
 
 -- what is decided stays decided, whatever bytes follow
-pub longer : (f : Format) (s t : List ℕ) (at : ℕ) → (read_case f s at ≡ CaseAnswer.Ended → ⊥) → read_case f (s ++ t) at ≡ read_case f s at
+pub longer : (f : Format) (s t : List ℕ) (at : ℕ) → (read_case f s at ≡ Err Ended → ⊥) → read_case f (s ++ t) at ≡ read_case f s at
 unfolding read_case
-longer f s t at h =
-    let w = words_at s (At at) in
-    rw (words-longer s t (At at) (λ e. h (ap (answer_of (case_of f w.value)) e)))
+longer f s t at h = then-longer _ _ _ _ (words-longer s t at) (λ w q n. refl) h
 
 -- ---- enough bytes: numbers
 
 -- a number that was read ends at the place m or before it
-abbrev Ends : NumberAnswer → ℕ → Type 0
-Ends (NumberAnswer.Read v next) m = next ≤ m
-Ends NumberAnswer.Bad m = Unit
-Ends NumberAnswer.Ended m = ⊥
+abbrev Ends : Result (Got ℕ) NumberError → ℕ → Type 0
+Ends (Ok g) m = g.next ≤ m
+Ends (Err NumberError.Malformed) m = Unit
+Ends (Err NumberError.Ended) m = ⊥
 
-ends-pick : (t : Bool) (x y : NumberAnswer) (m : ℕ) → Ends x m → Ends y m → Ends (cond t x y) m
+ends-pick : (t : Bool) (x y : Result (Got ℕ) NumberError) (m : ℕ) → Ends x m → Ends y m → Ends (cond t x y) m
 ends-pick true x y m h k = h
 ends-pick false x y m h k = k
 
-ends-joined : (l : ℕ) (x : NumberAnswer) (m : ℕ) → Ends x m → Ends (joined l x) m
-ends-joined l (NumberAnswer.Read v next) m h = h
-ends-joined l NumberAnswer.Bad m h = tt
-ends-joined l NumberAnswer.Ended m h = h
+ends-joined : (l : ℕ) (x : Result (Got ℕ) NumberError) (m : ℕ) → Ends x m → Ends (joined l x) m
+ends-joined l (Ok g) m h = h
+ends-joined l (Err NumberError.Malformed) m h = tt
+ends-joined l (Err NumberError.Ended) m h = h
 
 later-enough : (n : ℕ) (s : List ℕ) (at m : ℕ) → n < length s → at + n < m → Ends (later_in n s at) m
 unfolding later_in
@@ -170,49 +130,40 @@ decode-enough s at h = first-enough (drop at s) at (at + 5) (rw (length-drop at 
 
 -- ---- enough bytes: records
 
--- reading stands at the place m or before it, or at a malformed number
-abbrev Upto : Reading → ℕ → Type 0
-Upto (At p) m = p ≤ m
-Upto (Bad p) m = Unit
-Upto Ended m = ⊥
+-- what was read ends at the place m or before it, or a number is malformed
+abbrev Upto : {A : Type 0} → Result (Got A) CaseError → ℕ → Type 0
+Upto (Ok g) m = g.next ≤ m
+Upto (Err (Malformed p)) m = Unit
+Upto (Err Ended) m = ⊥
 
-upto-more : (r : Reading) (m k : ℕ) → m ≤ k → Upto r m → Upto r k
-upto-more (At p) m k h u = omega arith
-upto-more (Bad p) m k h u = tt
-upto-more Ended m k h u = u
+then-upto : {A B : Type 0} (x : Result (Got A) CaseError) (f : A → ℕ → Result (Got B) CaseError) (m k : ℕ) → Upto x m → ((v : A) (q : ℕ) → q ≤ m → Upto (f v q) k) → Upto (then x f) k
+then-upto (Ok g) f m k u h = h g.value g.next u
+then-upto (Err (Malformed p)) f m k u h = tt
+then-upto (Err Ended) f m k u h = u
 
-upto-number : (p : ℕ) (x : NumberAnswer) (m : ℕ) → Ends x m → Upto (number_of p x).reading m
-upto-number p (NumberAnswer.Read v next) m h = h
-upto-number p NumberAnswer.Bad m h = tt
-upto-number p NumberAnswer.Ended m h = h
+upto-number : (p : ℕ) (x : Result (Got ℕ) NumberError) (m k : ℕ) → m ≤ k → Ends x m → Upto (number_of p x) k
+upto-number p (Ok g) m k l h = omega arith
+upto-number p (Err NumberError.Malformed) m k l h = tt
+upto-number p (Err NumberError.Ended) m k l h = h
 
-upto-spoiled : (r : Reading) (m k : ℕ) → Upto r m → Upto (spoiled r) k
-upto-spoiled (At p) m k u = tt
-upto-spoiled (Bad p) m k u = tt
-upto-spoiled Ended m k u = absurd u
-
-number-enough : (s : List ℕ) (r : Reading) (m : ℕ) → m + 5 ≤ length s → Upto r m → Upto (number_at s r).reading (m + 5)
+number-enough : (s : List ℕ) (p m : ℕ) → m + 5 ≤ length s → p ≤ m → Upto (number_at s p) (m + 5)
 unfolding number_at
-number-enough s (At p) m h u =
-    upto-more (number_of p (decode_number s p)).reading (p + 5) (m + 5) (omega arith) (upto-number p (decode_number s p) (p + 5) (decode-enough s p (omega arith)))
-number-enough s (Bad p) m h u = tt
-number-enough s Ended m h u = u
+number-enough s p m h u = upto-number p (decode_number s p) (p + 5) (m + 5) (omega arith) (decode-enough s p (omega arith))
 
-upto-pick : (t : Bool) {A : Type 0} (x y : Got A) (m : ℕ) → Upto x.reading m → Upto y.reading m → Upto (cond t x y).reading m
-upto-pick true x y m h k = h
-upto-pick false x y m h k = k
+upto-pick : (t : Bool) (v q p m : ℕ) → q ≤ m → Upto (cond t (Ok (got v q)) (Err (Malformed p))) m
+upto-pick true v q p m h = h
+upto-pick false v q p m h = tt
 
-small-enough : (top : ℕ) (s : List ℕ) (r : Reading) (m : ℕ) → m + 5 ≤ length s → Upto r m → Upto (small_at top s r).reading (m + 5)
+small-enough : (top : ℕ) (s : List ℕ) (p m : ℕ) → m + 5 ≤ length s → p ≤ m → Upto (small_at top s p) (m + 5)
 unfolding small_at
-small-enough top s r m h u =
-    upto-pick (leb (number_at s r).value top) (number_at s r) (got 0 (spoiled r)) (m + 5) (number-enough s r m h u) (upto-spoiled r m (m + 5) u)
+small-enough top s p m h u = then-upto (number_at s p) _ (m + 5) (m + 5) (number-enough s p m h u) (λ v q l. upto-pick (leb v top) v q p (m + 5) l)
 
-numbers-enough : (n : ℕ) (s : List ℕ) (r : Reading) (m : ℕ) → m + 5 * n ≤ length s → Upto r m → Upto (numbers_at n s r).reading (m + 5 * n)
+numbers-enough : (n : ℕ) (s : List ℕ) (p m : ℕ) → m + 5 * n ≤ length s → p ≤ m → Upto (numbers_at n s p) (m + 5 * n)
 unfolding numbers_at
-numbers-enough zero s r m h u = upto-more r m (m + 5 * 0) (omega arith) u
-numbers-enough (suc n) s r m h u =
-    upto-more (numbers_at n s (number_at s r).reading).reading (m + 5 + 5 * n) (m + 5 * suc n) (omega arith)
-    (numbers-enough n s (number_at s r).reading (m + 5) (omega arith) (number-enough s r m (omega arith) u))
+numbers-enough zero s p m h u = omega arith
+numbers-enough (suc n) s p m h u =
+    then-upto (number_at s p) _ (m + 5) (m + 5 * suc n) (number-enough s p m (omega arith) u)
+    (λ v q l. then-upto (numbers_at n s q) _ (m + 5 + 5 * n) (m + 5 * suc n) (numbers-enough n s q (m + 5) (omega arith) l) (λ w r k. omega arith))
 
 most : (k : ℕ) → size_of k ≤ 9
 most zero = omega arith
@@ -220,34 +171,28 @@ most (suc zero) = omega arith
 most (suc (suc zero)) = omega arith
 most (suc (suc (suc k))) = omega arith
 
-shape-enough : (s : List ℕ) (r : Reading) (m : ℕ) → m + 50 ≤ length s → Upto r m → Upto (shape_words_at s r).reading (m + 50)
+shape-enough : (s : List ℕ) (p m : ℕ) → m + 50 ≤ length s → p ≤ m → Upto (shape_words_at s p) (m + 50)
 unfolding shape_words_at
-shape-enough s r m h u =
-    let k = small_at 3 s r in
-    let n = size_of k.value in
-    let e : n ≤ 9 = most k.value in
-    upto-more (numbers_at n s k.reading).reading (m + 5 + 5 * n) (m + 50) (omega arith)
-    (numbers-enough n s k.reading (m + 5) (omega arith) (small-enough 3 s r m (omega arith) u))
+shape-enough s p m h u =
+    then-upto (small_at 3 s p) _ (m + 5) (m + 50) (small-enough 3 s p m (omega arith) u)
+    (λ k q l.
+    let e : size_of k ≤ 9 = most k in
+    then-upto (numbers_at (size_of k) s q) _ (m + 5 + 5 * size_of k) (m + 50) (numbers-enough (size_of k) s q (m + 5) (omega arith) l) (λ w r d. omega arith))
 
-words-enough : (s : List ℕ) (r : Reading) (m : ℕ) → m + 160 ≤ length s → Upto r m → Upto (words_at s r).reading (m + 160)
+words-enough : (s : List ℕ) (p m : ℕ) → m + 160 ≤ length s → p ≤ m → Upto (words_at s p) (m + 160)
 unfolding words_at
-words-enough s r m h u =
-    let a = shape_words_at s r in
-    let b = shape_words_at s a.reading in
-    let n = numbers_at 11 s b.reading in
-    upto-more (small_at 1 s n.reading).reading (m + 50 + 50 + 5 * 11 + 5) (m + 160) (omega arith)
-    (small-enough 1 s n.reading (m + 50 + 50 + 5 * 11) (omega arith)
-    (numbers-enough 11 s b.reading (m + 50 + 50) (omega arith)
-    (shape-enough s a.reading (m + 50) (omega arith) (shape-enough s r m (omega arith) u))))
+words-enough s p m h u =
+    then-upto (shape_words_at s p) _ (m + 50) (m + 160) (shape-enough s p m (omega arith) u)
+    (λ a q l. then-upto (shape_words_at s q) _ (m + 50 + 50) (m + 160) (shape-enough s q (m + 50) (omega arith) l)
+    (λ b r k. then-upto (numbers_at 11 s r) _ (m + 50 + 50 + 5 * 11) (m + 160) (numbers-enough 11 s r (m + 50 + 50) (omega arith) k)
+    (λ w t d. then-upto (small_at 1 s t) _ (m + 50 + 50 + 5 * 11 + 5) (m + 160) (small-enough 1 s t (m + 50 + 50 + 5 * 11) (omega arith) d) (λ e v z. omega arith))))
 
-no_answer : (c : Case) (r : Reading) (m : ℕ) → Upto r m → answer_of c r ≡ CaseAnswer.Ended → ⊥
-no_answer c (At p) m u e = let z : ◌≡◌ {A = ℕ} 0 1 = cc in omega arith
-no_answer c (Bad p) m u e = let z : ◌≡◌ {A = ℕ} 0 1 = cc in omega arith
-no_answer c Ended m u e = u
+undecided : {A : Type 0} (x : Result (Got A) CaseError) (m : ℕ) → Upto x m → x ≡ Err Ended → ⊥
+undecided (Ok g) m u e = cc
+undecided (Err (Malformed p)) m u e = cc
+undecided (Err Ended) m u e = u
 
 -- 160 bytes always decide
-pub enough : (f : Format) (s : List ℕ) (at : ℕ) → at + 160 ≤ length s → read_case f s at ≡ CaseAnswer.Ended → ⊥
+pub enough : (f : Format) (s : List ℕ) (at : ℕ) → at + 160 ≤ length s → read_case f s at ≡ Err Ended → ⊥
 unfolding read_case
-enough f s at h e =
-    let w = words_at s (At at) in
-    no_answer (case_of f w.value) w.reading (at + 160) (words-enough s (At at) at h (omega arith)) e
+enough f s at h e = undecided _ (at + 160) (then-upto (words_at s at) (λ w q. Ok (got (case_of f w) q)) (at + 160) (at + 160) (words-enough s at at h (omega arith)) (λ w q l. l)) e

@@ -2,7 +2,7 @@
 -- A record is shape kind (0 ball, 1 cuboid, 2 capsule, 3 triangle) and its 1, 3, 7 or 9 numbers; the same for the second; quaternion; translation; start
 -- direction; largest distance; exact flag 0 or 1. Floats travel as their bits: of a NaN the word tells more than the float, so a record is read as words,
 -- and the floats are made of them, in a format f. A word has at most five groups, as document 01 has it, whatever f is.
-use Rattle.std.specs.Prelude.{ℕ, zero, suc, ◌+◌, ◌<◌, ◌≡◌, Bool, cond, List, [], ◌∷◌, ◌++◌, length, get_or, leb, eqb, Float}
+use Rattle.std.specs.Prelude.{ℕ, zero, suc, ◌+◌, Bool, cond, List, [], ◌∷◌, ◌++◌, length, get_or, take, leb, eqb, Float, Result, Ok, Err}
 use Rattle.std.specs.Float.{Format}
 use Rattle.std.specs.Float.Ieee.{of_bits, to_bits}
 use Rattle.vector.specs.declared.vec3.Vec3.{Vec3}
@@ -10,52 +10,37 @@ use Rattle.vector.specs.declared.pose.Pose.{Pose}
 use Rattle.vector.specs.Vector.{vec3}
 use Rattle.shape.specs.declared.support.Shape.{Shape}
 use Rattle.shape.specs.declared.support.Shape.TheVariants.{Ball, Cuboid, Capsule, Triangle}
-use Rattle.casefile.specs.Numbers.{decode_number, encode}
-use Rattle.casefile.specs.declared.numbers.NumberAnswer.{NumberAnswer}
+use Rattle.casefile.specs.Numbers.{got, decode_number, encode}
+use Rattle.casefile.specs.declared.numbers.Got.{Got}
+use Rattle.casefile.specs.declared.numbers.NumberError.{NumberError}
 use Rattle.casefile.specs.declared.records.Case.{Case}
-use Rattle.casefile.specs.declared.records.CaseAnswer.{CaseAnswer}
-use Rattle.casefile.specs.declared.records.Reading.{Reading}
-use Rattle.casefile.specs.declared.records.Reading.TheVariants.{At, Bad, Ended}
+use Rattle.casefile.specs.declared.records.CaseError.{CaseError}
+use Rattle.casefile.specs.declared.records.CaseError.TheVariants.{Malformed, Ended}
 
 -- ---- words
 
--- what was read, and where reading stands then
-pub record Got (A : Type 0) : Type 0 where
-  pub value : A
-  pub reading : Reading
-
-abbrev pub got : {A : Type 0} → A → Reading → Got A
-got v r = record { value = v; reading = r }
+-- what is read goes on at the place after it; what is refused ends the record
+abbrev pub then : {A B : Type 0} → Result (Got A) CaseError → (A → ℕ → Result (Got B) CaseError) → Result (Got B) CaseError
+then (Ok g) more = more g.value g.next
+then (Err e) more = Err e
 
 -- a number that starts at p
-abbrev pub number_of : ℕ → NumberAnswer → Got ℕ
-number_of p (NumberAnswer.Read v next) = got v (At next)
-number_of p NumberAnswer.Bad = got 0 (Bad p)
-number_of p NumberAnswer.Ended = got 0 Ended
+abbrev pub number_of : ℕ → Result (Got ℕ) NumberError → Result (Got ℕ) CaseError
+number_of p (Ok g) = Ok g
+number_of p (Err NumberError.Malformed) = Err (Malformed p)
+number_of p (Err NumberError.Ended) = Err Ended
 
--- the next number; what is refused stays refused
-unfoldable pub number_at : List ℕ → Reading → Got ℕ
-number_at s (At p) = number_of p (decode_number s p)
-number_at s (Bad p) = got 0 (Bad p)
-number_at s Ended = got 0 Ended
+unfoldable pub number_at : List ℕ → ℕ → Result (Got ℕ) CaseError
+number_at s p = number_of p (decode_number s p)
 
--- the number that was to be read is malformed
-abbrev pub spoiled : Reading → Reading
-spoiled (At p) = Bad p
-spoiled (Bad p) = Bad p
-spoiled Ended = Ended
-
--- the next number, which is malformed above `top`
-unfoldable pub small_at : ℕ → List ℕ → Reading → Got ℕ
-small_at top s r = cond (leb (number_at s r).value top) (number_at s r) (got 0 (spoiled r))
+-- a number that is malformed above `top`
+unfoldable pub small_at : ℕ → List ℕ → ℕ → Result (Got ℕ) CaseError
+small_at top s p = then (number_at s p) (λ v q. cond (leb v top) (Ok (got v q)) (Err (Malformed p)))
 
 -- the next n numbers
-unfoldable pub numbers_at : ℕ → List ℕ → Reading → Got (List ℕ)
-numbers_at zero s r = got [] r
-numbers_at (suc n) s r =
-    let a = number_at s r in
-    let b = numbers_at n s a.reading in
-    got (a.value ∷ b.value) b.reading
+unfoldable pub numbers_at : ℕ → List ℕ → ℕ → Result (Got (List ℕ)) CaseError
+numbers_at zero s p = Ok (got [] p)
+numbers_at (suc n) s p = then (number_at s p) (λ v q. then (numbers_at n s q) (λ w r. Ok (got (v ∷ w) r)))
 
 -- a shape's kind and its numbers
 pub record ShapeWords : Type 0 where
@@ -76,19 +61,19 @@ size_of (suc zero) = 3
 size_of (suc (suc zero)) = 7
 size_of (suc (suc (suc k))) = 9
 
-unfoldable pub shape_words_at : List ℕ → Reading → Got ShapeWords
-shape_words_at s r =
-    let k = small_at 3 s r in
-    let n = numbers_at (size_of k.value) s k.reading in
-    got (record { kind = k.value; numbers = n.value }) n.reading
+unfoldable pub shape_words_at : List ℕ → ℕ → Result (Got ShapeWords) CaseError
+shape_words_at s p =
+    then (small_at 3 s p) (λ k q.
+    then (numbers_at (size_of k) s q) (λ w r.
+    Ok (got (record { kind = k; numbers = w }) r)))
 
-unfoldable pub words_at : List ℕ → Reading → Got Words
-words_at s r =
-    let a = shape_words_at s r in
-    let b = shape_words_at s a.reading in
-    let n = numbers_at 11 s b.reading in
-    let e = small_at 1 s n.reading in
-    got (record { first = a.value; second = b.value; numbers = n.value; flag = e.value }) e.reading
+unfoldable pub words_at : List ℕ → ℕ → Result (Got Words) CaseError
+words_at s p =
+    then (shape_words_at s p) (λ a q.
+    then (shape_words_at s q) (λ b r.
+    then (numbers_at 11 s r) (λ w t.
+    then (small_at 1 s t) (λ e u.
+    Ok (got (record { first = a; second = b; numbers = w; flag = e }) u)))))
 
 -- ---- what the words stand for
 
@@ -131,34 +116,27 @@ module _ (f : Format) where
 
   -- ---- for the private functions
 
-  unfoldable pub shape_at : List ℕ → Reading → Got Shape
-  shape_at s r = let w = shape_words_at s r in got (shape_of w.value) w.reading
+  unfoldable pub shape_at : List ℕ → ℕ → Result (Got Shape) CaseError
+  shape_at s p = then (shape_words_at s p) (λ w q. Ok (got (shape_of w) q))
 
--- the first `count` of the words are the numbers that were read, and reading stands where they end
-pub record Holds (count : ℕ) (words : List ℕ) (reading : Reading) (n : Got (List ℕ)) : Type 0 where
-  pub told : reading ≡ n.reading
-  pub same : (i : ℕ) → i < count → get_or words i 0 ≡ get_or n.value i 0
+-- of words that were read in an array the first `count`
+abbrev pub first_words : ℕ → Result (Got (List ℕ)) CaseError → Result (Got (List ℕ)) CaseError
+first_words count r = then r (λ w q. Ok (got (take count w) q))
 
 -- ---- the record that starts at a place
 
-abbrev pub answer_of : Case → Reading → CaseAnswer
-answer_of c (At next) = CaseAnswer.Whole c next
-answer_of c (Bad p) = CaseAnswer.Malformed p
-answer_of c Ended = CaseAnswer.Ended
-
-unfoldable pub read_case : Format → List ℕ → ℕ → CaseAnswer
-read_case f s at = let w = words_at s (At at) in answer_of (case_of f w.value) w.reading
+unfoldable pub read_case : Format → List ℕ → ℕ → Result (Got Case) CaseError
+read_case f s at = then (words_at s at) (λ w q. Ok (got (case_of f w) q))
 
 -- document 01's number of what stands at a place of s, 0 for a record or refusal 4, and its value: the place after the record; of the refusal the offset, the length of s where that ends inside
-abbrev pub case_number : CaseAnswer → ℕ
-case_number (CaseAnswer.Whole c next) = 0
-case_number (CaseAnswer.Malformed p) = 4
-case_number CaseAnswer.Ended = 4
+abbrev pub case_number : Result (Got Case) CaseError → ℕ
+case_number (Ok g) = 0
+case_number (Err e) = 4
 
-abbrev pub case_value : List ℕ → CaseAnswer → ℕ
-case_value s (CaseAnswer.Whole c next) = next
-case_value s (CaseAnswer.Malformed p) = p
-case_value s CaseAnswer.Ended = length s
+abbrev pub case_value : List ℕ → Result (Got Case) CaseError → ℕ
+case_value s (Ok g) = g.next
+case_value s (Err (Malformed p)) = p
+case_value s (Err Ended) = length s
 
 -- ---- writing
 

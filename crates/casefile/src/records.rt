@@ -1,13 +1,12 @@
-// Records of a case file: a record's numbers are read one after the other, and what is refused first stays refused,
-// so that each step takes where the one before it stands.
+// Records of a case file: a record's numbers are read one after the other, and the first that is refused ends the record.
 ghost use Rattle.std.specs.Prelude.{◌≡◌, ◌≤◌};
 ghost use Rattle.std.specs.Float.{binary32};
 ghost use Rattle.number.specs.Told.{Told};
-ghost use Rattle.casefile.specs.Records.{got, number_at, spoiled as spoiled_of, small_at, numbers_at, Holds};
+ghost use Rattle.casefile.specs.Records.{number_at, small_at, numbers_at, first_words};
 ghost use Rattle.casefile.specs.Records.{float_of, vector_of, size_of, shape_in, pose_of, shape_at, read_case, case_number, case_value};
 
 use crate::numbers;
-use crate::numbers::NumberAnswer;
+use crate::numbers::{Got, NumberError};
 use shape::Shape;
 use vector::{Pose, Rotation, Vec3};
 
@@ -22,160 +21,53 @@ pub struct Case {
     pub exact: bool,
 }
 
-// What reading a record finds.
+// Why no record was read.
 #[derive(Clone, Copy)]
-pub enum CaseAnswer {
-    // The record, and the place after it.
-    Whole { case: Case, next: usize },
+pub enum CaseError {
     // Refusal 4: the number that starts at this place is malformed, or a kind above 3, or a flag above 1.
     Malformed(usize),
     // The bytes end inside the record.
     Ended,
 }
 
-// Where reading stands.
-#[derive(Clone, Copy)]
-pub enum Reading {
-    // at the place of the next number
-    At(usize),
-    // at the place of a number that is malformed
-    Bad(usize),
-    // past the end of the bytes
-    Ended,
-}
-
-// What was read, zero where it was refused, and where reading stands then.
-#[derive(Clone, Copy)]
-pub struct GotNumber {
-    pub value: u32,
-    pub reading: Reading,
-}
-
-// Numbers that are read together: at most eleven, in the first places.
-#[derive(Clone, Copy)]
-pub struct GotNumbers {
-    pub words: [u32; 11],
-    pub reading: Reading,
-}
-
-#[derive(Clone, Copy)]
-pub struct GotShape {
-    pub value: Shape,
-    pub reading: Reading,
-}
-
 // ---- numbers
 
-fn number_at(bytes: &[u8], reading: Reading) -> GotNumber
-    ensures { got result.value result.reading ≡ number_at bytes.now reading }
+#[tactic(auto, unfolding(crate::specs::Records::number_at))]
+fn number_at(bytes: &[u8], at: usize) -> Result<Got<u32>, CaseError>
+    ensures { result ≡ number_at bytes.now at }
 {
-    match reading {
-        Reading::At(at) => {
-            let answer = numbers::read_number(bytes, at);
-            match answer {
-                NumberAnswer::Read { value, next } => GotNumber {
-                    value,
-                    reading: Reading::At(next),
-                },
-                NumberAnswer::Bad => GotNumber {
-                    value: 0,
-                    reading: Reading::Bad(at),
-                },
-                NumberAnswer::Ended => GotNumber {
-                    value: 0,
-                    reading: Reading::Ended,
-                },
-            }
-        }
-        Reading::Bad(at) => GotNumber {
-            value: 0,
-            reading: Reading::Bad(at),
-        },
-        Reading::Ended => GotNumber {
-            value: 0,
-            reading: Reading::Ended,
-        },
-    }
-}
-
-fn spoiled(reading: Reading) -> Reading
-    ensures { result ≡ spoiled_of reading }
-{
-    match reading {
-        Reading::At(at) => Reading::Bad(at),
-        Reading::Bad(at) => Reading::Bad(at),
-        Reading::Ended => Reading::Ended,
+    match numbers::read_number(bytes, at) {
+        Ok(number) => Ok(number),
+        Err(NumberError::Malformed) => Err(CaseError::Malformed(at)),
+        Err(NumberError::Ended) => Err(CaseError::Ended),
     }
 }
 
 // A number that is malformed above `top`.
-fn small_at(bytes: &[u8], top: u32, reading: Reading) -> GotNumber
-    ensures { got result.value result.reading ≡ small_at top bytes.now reading }
+#[tactic(auto, unfolding(crate::specs::Records::small_at))]
+fn small_at(bytes: &[u8], top: u32, at: usize) -> Result<Got<u32>, CaseError>
+    ensures { result ≡ small_at top bytes.now at }
 {
-    let number = number_at(bytes, reading);
-    let value = number.value;
-    if value <= top {
-        return number;
+    let number = number_at(bytes, at)?;
+    if top < number.value {
+        return Err(CaseError::Malformed(at));
     }
-    GotNumber {
-        value: 0,
-        reading: spoiled(reading),
-    }
+    Ok(number)
 }
 
-// The `count` numbers from the place `start` on. The loop carries the place of the next one, and not a `Reading`, which
-// would go through memory at every turn.
-fn numbers_from(bytes: &[u8], start: usize, count: usize) -> GotNumbers
+// The next `count` numbers, in the first places.
+fn numbers_at(bytes: &[u8], at: usize, count: usize) -> Result<Got<[u32; 11]>, CaseError>
     requires { count ≤ 11 }
-    ensures { Holds count result.words result.reading (numbers_at count bytes.now (Reading.At start)) }
+    ensures { first_words count result ≡ numbers_at count bytes.now at }
 {
     let mut words = [0u32; 11];
-    let mut place = start;
-    let mut i: usize = 0;
-    while i < count {
-        let answer = numbers::read_number(bytes, place);
-        match answer {
-            NumberAnswer::Read { value, next } => {
-                words[i] = value;
-                place = next;
-            }
-            NumberAnswer::Bad => {
-                return GotNumbers {
-                    words,
-                    reading: Reading::Bad(place),
-                };
-            }
-            NumberAnswer::Ended => {
-                return GotNumbers {
-                    words,
-                    reading: Reading::Ended,
-                };
-            }
-        }
-        i += 1;
+    let mut next = at;
+    for i in 0..count {
+        let number = number_at(bytes, next)?;
+        words[i] = number.value;
+        next = number.next;
     }
-    GotNumbers {
-        words,
-        reading: Reading::At(place),
-    }
-}
-
-// The next `count` numbers.
-fn numbers_at(bytes: &[u8], reading: Reading, count: usize) -> GotNumbers
-    requires { count ≤ 11 }
-    ensures { Holds count result.words result.reading (numbers_at count bytes.now reading) }
-{
-    match reading {
-        Reading::At(start) => numbers_from(bytes, start, count),
-        Reading::Bad(at) => GotNumbers {
-            words: [0u32; 11],
-            reading: Reading::Bad(at),
-        },
-        Reading::Ended => GotNumbers {
-            words: [0u32; 11],
-            reading: Reading::Ended,
-        },
-    }
+    Ok(Got { value: words, next })
 }
 
 // ---- what words stand for
@@ -246,50 +138,37 @@ fn pose_of(words: [u32; 11]) -> Pose
 // ---- records
 
 // A shape: its kind, and its numbers.
-fn shape_at(bytes: &[u8], reading: Reading) -> GotShape
-    ensures { got result.value result.reading ≡ shape_at binary32 bytes.now reading }
+fn shape_at(bytes: &[u8], at: usize) -> Result<Got<Shape>, CaseError>
+    ensures { result ≡ shape_at binary32 bytes.now at }
 {
-    let number = small_at(bytes, 3, reading);
-    let kind = number.value;
-    let after_kind = number.reading;
-    let numbers = numbers_at(bytes, after_kind, size_of(kind));
-    let words = numbers.words;
-    let after = numbers.reading;
-    GotShape {
-        value: shape_of(kind, words),
-        reading: after,
-    }
+    let kind = small_at(bytes, 3, at)?;
+    let numbers = numbers_at(bytes, kind.next, size_of(kind.value))?;
+    Ok(Got {
+        value: shape_of(kind.value, numbers.value),
+        next: numbers.next,
+    })
 }
 
 // The record that starts at `at`: its numbers are at most 32, in at most 160 bytes.
-pub fn read_case(bytes: &[u8], at: usize) -> CaseAnswer
+pub fn read_case(bytes: &[u8], at: usize) -> Result<Got<Case>, CaseError>
     ensures answer { result ≡ read_case binary32 bytes.now at }
     ensures told { Told case_number (case_value bytes.now) result (read_case binary32 bytes.now at) }
 {
-    let first = shape_at(bytes, Reading::At(at));
-    let after_first = first.reading;
-    let second = shape_at(bytes, after_first);
-    let after_second = second.reading;
-    let numbers = numbers_at(bytes, after_second, 11);
-    let after_numbers = numbers.reading;
-    let flag = small_at(bytes, 1, after_numbers);
-    let end = flag.reading;
-    match end {
-        Reading::At(next) => {
-            let g1 = first.value;
-            let g2 = second.value;
-            let words = numbers.words;
-            let case = Case {
-                g1,
-                g2,
-                pos12: pose_of(words),
-                dir: vector_of(words, 7),
-                max_dist: float_of(words, 10),
-                exact: flag.value == 1,
-            };
-            CaseAnswer::Whole { case, next }
-        }
-        Reading::Bad(number) => CaseAnswer::Malformed(number),
-        Reading::Ended => CaseAnswer::Ended,
-    }
+    let first = shape_at(bytes, at)?;
+    let second = shape_at(bytes, first.next)?;
+    let numbers = numbers_at(bytes, second.next, 11)?;
+    let flag = small_at(bytes, 1, numbers.next)?;
+    let words = numbers.value;
+    let case = Case {
+        g1: first.value,
+        g2: second.value,
+        pos12: pose_of(words),
+        dir: vector_of(words, 7),
+        max_dist: float_of(words, 10),
+        exact: flag.value == 1,
+    };
+    Ok(Got {
+        value: case,
+        next: flag.next,
+    })
 }

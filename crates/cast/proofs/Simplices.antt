@@ -8,6 +8,11 @@ use lib.Dec.{eqb, ltb, leb}
 use lib.ListN.{get_or}
 use lib.Ieee.{Float, Format, lt, le}
 use lib.Ieee.Scale.{finite}
+use Rattle.std.specs.Prelude.{Option, Some, None, Result, Ok, Err}
+use Rattle.std.specs.declared.ops.ControlFlow.{ControlFlow}
+use Rattle.std.specs.declared.ops.ControlFlow.TheVariants.{Continue, Break}
+use Rattle.refusal.specs.declared.WouldPanic.{WouldPanic}
+use Rattle.refusal.specs.Refusal.{would_panic}
 use Rattle.number.specs.Constants.{eps_tol, largest}
 use Rattle.vector.specs.declared.vec3.Vec3.{Vec3}
 use Rattle.vector.specs.Vector.{zero_f, neg_v, add_v, scale_v, div_v, dot_v, normalize_and_length_v, ◌⊕◌, ◌⊖◌, ◌⊗◌}
@@ -15,30 +20,19 @@ use Rattle.shape.specs.declared.vertex.Vertex.{Vertex}
 use Rattle.shape.specs.Vertex.{translate_vertex}
 use Rattle.simplex.specs.declared.voronoi_simplex.VoronoiSimplex.{VoronoiSimplex}
 use Rattle.simplex.specs.declared.operations.Added.{Added as Grown}
-use Rattle.simplex.specs.declared.operations.Answer.{Answer}
-use Rattle.simplex.specs.declared.operations.Answer.TheVariants as Added
-use Rattle.simplex.specs.declared.operations.Outcome.TheVariants as Outcome
 use Rattle.simplex.specs.Simplex.{is_simplex, new_simplex, reset_in, swap_in, saved_in, grown_in, near_simplex, translated_in}
 use Rattle.simplex.specs.Operations.{altered_or, reset_simplex, add_point, modify_pnts}
 use Rattle.simplex.proofs.Laws.{Small, small, room}
 use Rattle.reduction.specs.declared.location.Location.{Location}
 use Rattle.reduction.specs.declared.location.Location.TheVariants.{OnVertex, OnEdge, OnFace, OnSolid}
-use Rattle.reduction.specs.declared.location.Projected.{Projected}
-use Rattle.reduction.specs.declared.location.Projected.TheVariants.{At, Refused}
-use Rattle.reduction.specs.Reduction.{overwrite_in, place_in, to_first, to_vertex, to_edge, reduce_segment, triangle_edge, reduce_triangle, edge_first, tetrahedron_edge, tetrahedron_face, reduce_tetrahedron, reduce_to, has_location, project_origin, reduced_at, project_origin_and_reduce}
+use Rattle.reduction.specs.Reduction.{Projected, overwrite_in, place_in, to_first, to_vertex, to_edge, reduce_segment, triangle_edge, reduce_triangle, edge_first, tetrahedron_edge, tetrahedron_face, reduce_tetrahedron, reduce_to, has_location, project_origin, reduced_at, project_origin_and_reduce}
 use Rattle.reduction.proofs.Swaps.{is-small, swap-keeps}
 use Rattle.reduction.proofs.Fits.{found-has}
-use Rattle.cast.specs.declared.rounds.Cast.{Cast}
-use Rattle.cast.specs.declared.rounds.Cast.TheVariants.{Miss, Refused as Asserted}
 use Rattle.cast.specs.declared.rounds.Round.{Round}
-use Rattle.cast.specs.declared.rounds.Next.{Next}
-use Rattle.cast.specs.declared.rounds.Next.TheVariants.{Onward, Ended}
 use Rattle.cast.specs.declared.rounds.Turn.{Turn}
 use Rattle.cast.specs.declared.ray.Ray.{Ray}
-use Rattle.cast.specs.declared.ray.MaybeTime.{MaybeTime}
-use Rattle.cast.specs.declared.ray.MaybeTime.TheVariants as Time
 use Rattle.cast.specs.Ray.{ray_toi_with_halfspace}
-use Rattle.cast.specs.Cast.{Search, goes_on, ◌▷◌, onward_with, ended_with, ray_of, round_of, impact, beyond, support_point, upper_bound, last_chance, lowered, clipped_at, clipped}
+use Rattle.cast.specs.Cast.{Cast, Search, goes_on, ◌▷◌, onward_with, ended_with, ray_of, round_of, impact, beyond, support_point, upper_bound, last_chance, lowered, clipped_at, clipped}
 use Rattle.cast.specs.Cast.{min_bound_of, bounded, added_by, added, solid, reduced_to, reduced, probed, turn_of, start_at, start_of}
 use Rattle.cast.proofs.Start.{reset-done}
 
@@ -117,15 +111,16 @@ tetrahedron-small s OnSolid h l = h
 
 reduce-small : (f : Format) (s : VoronoiSimplex) → Small s → Small (project_origin_and_reduce f s).simplex
 unfolding project_origin_and_reduce reduce_to
-reduce-small f s h = by (project_origin f s) (λ p l e. (found-has f s p l e).1)
+reduce-small f s h = by (project_origin f s) (λ p e. (found-has f s p e).1)
   where
-    by : (x : Projected) → ((p : Vec3) (l : Location) → x ≡ At p l → has_location s.dim l ≡ true) → Small (reduced_at s x).simplex
-    by (At p l) has =
-        let has-l = has p l refl in
+    by : (x : Result Projected WouldPanic) → ((p : Projected) → x ≡ Ok p → has_location s.dim p.location ≡ true) → Small (reduced_at s x).simplex
+    by (Ok p) has =
+        let l = p.location in
+        let has-l = has p refl in
         either (eqb s.dim 0) _ _ (first_small s h)
         (either (eqb s.dim 1) _ _ (segment-small s l h)
         (either (eqb s.dim 2) _ _ (triangle-small s l h has-l) (tetrahedron-small s l h has-l)))
-    by Refused has = h
+    by (Err e) has = h
 
 saved-small : (s : VoronoiSimplex) → Small s → Small (saved_in s)
 unfolding saved_in
@@ -146,7 +141,7 @@ add_small : (f : Format) (s : VoronoiSimplex) (v : Vertex) → Small s → Small
 unfolding add_point saved_in
 add_small f s v h = by (is_simplex s && ltb s.dim 3) (near_simplex f s v) (room s)
   where
-    by : (b c : Bool) → (b ≡ true → s.dim < 3) → Small (cond {A = Grown} b (cond c (record { simplex = saved_in s; answer = Added.No }) (record { simplex = grown_in (saved_in s) v; answer = Added.Yes })) (record { simplex = s; answer = Added.Refused })).simplex
+    by : (b c : Bool) → (b ≡ true → s.dim < 3) → Small (cond {A = Grown} b (cond c (record { simplex = saved_in s; answer = Ok false }) (record { simplex = grown_in (saved_in s) v; answer = Ok true })) (record { simplex = s; answer = Err would_panic })).simplex
     by true true l = saved-small s h
     by true false l = grown-small (saved_in s) v (l refl) (saved-small s h)
     by false c l = h
@@ -172,9 +167,9 @@ modify-small f s d h = by (is_simplex s)
 then-small : (t : Turn) (part : VoronoiSimplex → Round → Turn) → Small t.simplex → ((s : VoronoiSimplex) (r : Round) → Small s → Small (part s r).simplex) → Small (t ▷ part).simplex
 then-small t part h go = by t.next
   where
-    by : (x : Next) → Small (goes_on t x part).simplex
-    by (Onward r) = go t.simplex r h
-    by (Ended x) = h
+    by : (x : ControlFlow Cast Round) → Small (goes_on t x part).simplex
+    by (Continue r) = go t.simplex r h
+    by (Break x) = h
 
 -- the simplex that a cast begins with
 begun : (v : Vertex) → Small (reset_simplex new_simplex v).simplex
@@ -190,7 +185,7 @@ module _ (f : Format) (k : Search) where
       let ray = ray_of (add_v f r.curr_ray.origin shift) r.curr_ray.dir in
       by (beyond f k ltoi) (modify_pnts f s (neg_v shift)).simplex (round_of ltoi ray dir r.proj (largest f) false) (modify-small f s (neg_v shift) h)
     where
-      by : (b : Bool) (u : VoronoiSimplex) (q : Round) → Small u → Small (cond {A = Turn} b (ended_with s Miss) (onward_with u q)).simplex
+      by : (b : Bool) (u : VoronoiSimplex) (q : Round) → Small u → Small (cond {A = Turn} b (ended_with s (Ok None)) (onward_with u q)).simplex
       by true u q m = h
       by false u q m = m
 
@@ -203,19 +198,19 @@ module _ (f : Format) (k : Search) where
       below true false t = h
       below false c t = h
 
-      above : (b : Bool) → Small (cond {A = Turn} b (ended_with s Miss) (onward_with s r)).simplex
+      above : (b : Bool) → Small (cond {A = Turn} b (ended_with s (Ok None)) (onward_with s r)).simplex
       above true = h
       above false = h
 
-      by : (along : Float) (b c : Bool) (x : MaybeTime) → Small (clipped_at f k s r dir along x).simplex
-      by along b c (Time.Some t) = below (lt along zero_f) (lt zero_f t) t
-      by along b c Time.None = above (lt (eps_tol f) along)
+      by : (along : Float) (b c : Bool) (x : Option Float) → Small (clipped_at f k s r dir along x).simplex
+      by along b c (Some t) = below (lt along zero_f) (lt zero_f t) t
+      by along b c None = above (lt (eps_tol f) along)
 
   bounded-small : (s : VoronoiSimplex) (r : Round) (m : Float) → Small s → Small (bounded f k s r m).simplex
   unfolding bounded
   bounded-small s r m h = by r.last_chance (not (finite m)) (le (◌⊖◌ f r.max_bound m) (◌⊗◌ f k.eps_rel r.max_bound))
     where
-      by : (a b c : Bool) → Small (cond {A = Turn} a (ended_with s Miss) (cond b (ended_with s Asserted) (cond c (ended_with s Miss) (onward_with s r)))).simplex
+      by : (a b c : Bool) → Small (cond {A = Turn} a (ended_with s (Ok None)) (cond b (ended_with s (Err would_panic)) (cond c (ended_with s (Ok None)) (onward_with s r)))).simplex
       by true b c = h
       by false true c = h
       by false false true = h
@@ -225,10 +220,9 @@ module _ (f : Format) (k : Search) where
   unfolding added
   added-small s r v h = let u = translate_vertex f v (neg_v r.curr_ray.origin) in by (add_point f s u).simplex (add_point f s u).answer (add_small f s u h)
     where
-      by : (s : VoronoiSimplex) (x : Answer) → Small s → Small (added_by f s x r).simplex
-      by s Added.Yes h = h
-      by s Added.No h = h
-      by s Added.Refused h = h
+      by : (s : VoronoiSimplex) (x : Result Bool WouldPanic) → Small s → Small (added_by f s x r).simplex
+      by s (Ok b) h = h
+      by s (Err e) h = h
 
   reduced-small : (s : VoronoiSimplex) (r : Round) (m : Float) (v : Vertex) → Small s → Small (reduced f k s r m v).simplex
   unfolding reduced
@@ -238,9 +232,9 @@ module _ (f : Format) (k : Search) where
       inside true s x q h = h
       inside false s x q h = h
 
-      by : (s : VoronoiSimplex) (x : Projected) → Small s → Small (reduced_to f k s x r m v).simplex
-      by s (At p l) h = inside (eqb s.dim 3) s (solid f k r m v) (round_of r.ltoi r.curr_ray r.ldir p r.max_bound r.last_chance) h
-      by s Refused h = h
+      by : (s : VoronoiSimplex) (x : Result Projected WouldPanic) → Small s → Small (reduced_to f k s x r m v).simplex
+      by s (Ok p) h = inside (eqb s.dim 3) s (solid f k r m v) (round_of r.ltoi r.curr_ray r.ldir p.point r.max_bound r.last_chance) h
+      by s (Err e) h = h
 
   probed-small : (s : VoronoiSimplex) (r : Round) (dir : Vec3) (v : Vertex) → Small s → Small (probed f k s r dir v).simplex
   unfolding probed
@@ -280,9 +274,9 @@ module _ (f : Format) (k : Search) where
       let s = (reset_simplex new_simplex (translate_vertex f (k.supp (neg_v ray.dir)) (neg_v ray.origin))).simplex in
       by ray (project_origin_and_reduce f s).simplex (project_origin_and_reduce f s).projection (reduce-small f s (begun (translate_vertex f (k.supp (neg_v ray.dir)) (neg_v ray.origin))))
     where
-      by : (ray : Ray) (s : VoronoiSimplex) (x : Projected) → Small s → Small (start_at f ray s x).simplex
-      by ray s (At p l) h = h
-      by ray s Refused h = h
+      by : (ray : Ray) (s : VoronoiSimplex) (x : Result Projected WouldPanic) → Small s → Small (start_at f ray s x).simplex
+      by ray s (Ok p) h = h
+      by ray s (Err e) h = h
 
   -- ---- where a cast stands after n turns, or where it has ended
   pub after_turns : ℕ → Turn
@@ -297,6 +291,6 @@ module _ (f : Format) (k : Search) where
   pub a-simplex : (n : ℕ) → is_simplex (after_turns n).simplex ≡ true
   a-simplex n = is-small (after_turns n).simplex (stands-small n)
 
-  pub moved-done : (n : ℕ) (d : Vec3) → (modify_pnts f (after_turns n).simplex d).outcome ≡ Outcome.Done
+  pub moved-done : (n : ℕ) (d : Vec3) → (modify_pnts f (after_turns n).simplex d).outcome ≡ Ok tt
   unfolding modify_pnts
   moved-done n d = rw (a-simplex n)

@@ -1,8 +1,10 @@
 -- `minkowski_ray_cast` of src/query/gjk/gjk.rs, for any format f and any support function. Definitions only.
 -- The loop's body in the Rust's order: `support_point`, `last_chance`, `clipped`, `bounded`, `added`, `reduced`; `probed` and `turn_of` put them together. A part ends the cast, or goes
 -- on with the simplex and what the loop carries (`◌▷◌`). The rounds that are left, `100 - niter`, are the fuel of `run_of`: where none is left, the Rust returns `None`.
--- What is `None` there is `Miss` here, number 6; where it panics the answer is `Refused`, number 2.
-use Rattle.std.specs.Prelude.{ℕ, zero, suc, Bool, false, not, ◌&&◌, ◌||◌, cond, eqb, Float}
+-- What is `None` there is `Ok None` here, a miss, number 6; where it panics the answer is refusal 2.
+use Rattle.std.specs.Prelude.{ℕ, zero, suc, Bool, false, not, ◌&&◌, ◌||◌, cond, eqb, Float, Option, Some, None, Result, Ok, Err}
+use Rattle.std.specs.declared.ops.ControlFlow.{ControlFlow}
+use Rattle.std.specs.declared.ops.ControlFlow.TheVariants.{Continue, Break}
 use Rattle.std.specs.Float.Ieee as Ieee
 use Rattle.std.specs.Float.{Format}
 use Rattle.std.specs.Float.Ieee.{lt, le}
@@ -10,44 +12,43 @@ use Rattle.std.specs.Float.Ieee.Scale.{finite}
 use Rattle.number.specs.Constants.{eps_tol, largest}
 use Rattle.number.specs.Root.{root}
 use Rattle.number.specs.Small.{gt, ge, larger}
+use Rattle.refusal.specs.declared.WouldPanic.{WouldPanic}
+use Rattle.refusal.specs.Refusal.{would_panic, panic_number}
 use Rattle.vector.specs.declared.vec3.Vec3.{Vec3}
 use Rattle.vector.specs.Vector.{zero_f, one_f, zero_v, neg_v, add_v, sub_v, scale_v, div_v, dot_v, length_v, normalize_and_length_v, ◌⊕◌, ◌⊖◌, ◌⊗◌, ◌⊘◌}
 use Rattle.shape.specs.declared.vertex.Vertex.{Vertex}
 use Rattle.shape.specs.Vertex.{single_point, translate_vertex}
 use Rattle.shape.specs.Support.{from_shapes}
 use Rattle.simplex.specs.declared.voronoi_simplex.VoronoiSimplex.{VoronoiSimplex}
-use Rattle.simplex.specs.declared.operations.Answer.{Answer}
 use Rattle.simplex.specs.Simplex.{new_simplex}
 use Rattle.simplex.specs.Operations.{reset_simplex, add_point, modify_pnts}
-use Rattle.reduction.specs.declared.location.Projected.{Projected}
-use Rattle.reduction.specs.Reduction.{project_origin_and_reduce}
+use Rattle.reduction.specs.Reduction.{Projected, project_origin_and_reduce}
 use Rattle.witnesses.specs.declared.Witnesses.{Witnesses}
 use Rattle.witnesses.specs.Witnesses.{result_of}
 use Rattle.cast.specs.declared.ray.Ray.{Ray}
-use Rattle.cast.specs.declared.ray.MaybeTime.{MaybeTime}
-use Rattle.cast.specs.declared.rounds.Cast.{Cast}
-use Rattle.cast.specs.declared.rounds.Cast.TheVariants.{Impact, Miss, Refused}
+use Rattle.cast.specs.declared.rounds.Impact.{Impact}
 use Rattle.cast.specs.declared.rounds.Query.{Query}
 use Rattle.cast.specs.declared.rounds.Round.{Round}
-use Rattle.cast.specs.declared.rounds.Next.{Next}
-use Rattle.cast.specs.declared.rounds.Next.TheVariants.{Onward, Ended}
 use Rattle.cast.specs.declared.rounds.Turn.{Turn}
 use Rattle.cast.specs.Ray.{is_zero, ray_toi_with_halfspace}
 
--- ---- the number of each answer, 0, refusal 2 or the miss's 6, and its values, the time and the direction; what is no answer has zeros
+-- an impact or a miss, as the Rust's `Option`; or the refusal
+abbrev pub Cast : Type 0
+Cast = Result (Option Impact) WouldPanic
+
+-- ---- the number of each answer, 0, the miss's 6 or refusal 2, and its values, the time and the direction; what is no impact has zeros
 unfoldable pub cast_number : Cast → ℕ
-cast_number (Impact t d) = 0
-cast_number Miss = 6
-cast_number Refused = 2
+cast_number (Ok (Some i)) = 0
+cast_number (Ok None) = 6
+cast_number (Err e) = panic_number e
 
-pub record Values : Type 0 where
-  pub time : Float
-  pub dir : Vec3
+abbrev pub impact_at : Float → Vec3 → Impact
+impact_at t d = record { time = t; dir = d }
 
-unfoldable pub cast_values : Cast → Values
-cast_values (Impact t d) = record { time = t; dir = d }
-cast_values Miss = record { time = zero_f; dir = zero_v }
-cast_values Refused = record { time = zero_f; dir = zero_v }
+unfoldable pub cast_values : Cast → Impact
+cast_values (Ok (Some i)) = i
+cast_values (Ok None) = impact_at zero_f zero_v
+cast_values (Err e) = impact_at zero_f zero_v
 
 -- ---- what a cast is asked: the support points of the two shapes, the ray, the largest time; and `ray_length` and `_eps_rel`
 pub record Search : Type 0 where
@@ -63,24 +64,24 @@ search_of f q =
 
 -- ---- a part of the loop's body ends the cast, or goes on
 abbrev pub onward_with : VoronoiSimplex → Round → Turn
-onward_with s r = record { simplex = s; next = Onward r }
+onward_with s r = record { simplex = s; next = Continue r }
 
 abbrev pub ended_with : VoronoiSimplex → Cast → Turn
-ended_with s x = record { simplex = s; next = Ended x }
+ended_with s x = record { simplex = s; next = Break x }
 
 -- the next part, where the first goes on
-abbrev pub goes_on : Turn → Next → (VoronoiSimplex → Round → Turn) → Turn
-goes_on t (Onward r) part = part t.simplex r
-goes_on t (Ended x) part = t
+abbrev pub goes_on : Turn → ControlFlow Cast Round → (VoronoiSimplex → Round → Turn) → Turn
+goes_on t (Continue r) part = part t.simplex r
+goes_on t (Break x) part = t
 
 infixr 10 ◌▷◌
 abbrev pub ◌▷◌ : Turn → (VoronoiSimplex → Round → Turn) → Turn
 t ▷ part = goes_on t t.next part
 
 -- a turn's end is the cast's, or the rounds go on
-unfoldable pub after : (VoronoiSimplex → Round → Cast) → VoronoiSimplex → Next → Cast
-after go s (Onward r) = go s r
-after go s (Ended x) = x
+unfoldable pub after : (VoronoiSimplex → Round → Cast) → VoronoiSimplex → ControlFlow Cast Round → Cast
+after go s (Continue r) = go s r
+after go s (Break x) = x
 
 abbrev pub ray_of : Vec3 → Vec3 → Ray
 ray_of o d = record { origin = o; dir = d }
@@ -92,7 +93,7 @@ round_of ltoi ray ldir proj max_bound last_chance =
 module _ (f : Format) where
   -- `Some((ltoi / ray_length, ldir))`
   unfoldable pub impact : Search → Round → Cast
-  impact k r = Impact (◌⊘◌ f r.ltoi k.ray_length) r.ldir
+  impact k r = Ok (Some (impact_at (◌⊘◌ f r.ltoi k.ray_length) r.ldir))
 
   -- `ltoi / ray_length > max_time_of_impact`
   unfoldable pub beyond : Search → Float → Bool
@@ -113,12 +114,12 @@ module _ (f : Format) where
   witnessed k r witness1 witness2 =
       let witness_ltoi = dot_v f (sub_v f (sub_v f witness1 witness2) k.ray.origin) r.curr_ray.dir in
       let refined = round_of witness_ltoi r.curr_ray r.ldir r.proj r.max_bound r.last_chance in
-      cond (finite witness_ltoi && gt witness_ltoi r.ltoi) (cond (beyond k witness_ltoi) Miss (impact k refined)) (impact k r)
+      cond (finite witness_ltoi && gt witness_ltoi r.ltoi) (cond (beyond k witness_ltoi) (Ok None) (impact k refined)) (impact k r)
 
   -- `result(simplex, simplex.dimension() == DIM)`
-  abbrev pub last_chance_by : Search → Round → Witnesses → Cast
-  last_chance_by k r (Witnesses.At witness1 witness2) = witnessed k r witness1 witness2
-  last_chance_by k r Witnesses.Refused = Refused
+  abbrev pub last_chance_by : Search → Round → Result Witnesses WouldPanic → Cast
+  last_chance_by k r (Ok w) = witnessed k r w.point1 w.point2
+  last_chance_by k r (Err e) = Err e
 
   unfoldable pub last_chance : Search → VoronoiSimplex → Round → Cast
   last_chance k s r = last_chance_by k r (result_of f s (eqb s.dim 3))
@@ -133,11 +134,11 @@ module _ (f : Format) where
       let curr_ray = ray_of (add_v f r.curr_ray.origin shift) r.curr_ray.dir in
       -- `simplex.modify_pnts(&|pt| pt.translate_mut(-shift))`, which is never refused here (`moved-done` of proofs/Simplices.antt)
       let moved = (modify_pnts f s (neg_v shift)).simplex in
-      cond (beyond k ltoi) (ended_with s Miss) (onward_with moved (round_of ltoi curr_ray dir r.proj (largest f) false))
+      cond (beyond k ltoi) (ended_with s (Ok None)) (onward_with moved (round_of ltoi curr_ray dir r.proj (largest f) false))
 
-  abbrev pub clipped_at : Search → VoronoiSimplex → Round → Vec3 → Float → MaybeTime → Turn
-  clipped_at k s r dir along (MaybeTime.Some t) = cond (lt along zero_f && gt t zero_f) (lowered k s r dir t) (onward_with s r)
-  clipped_at k s r dir along MaybeTime.None = cond (gt along (eps_tol f)) (ended_with s Miss) (onward_with s r)
+  abbrev pub clipped_at : Search → VoronoiSimplex → Round → Vec3 → Float → Option Float → Turn
+  clipped_at k s r dir along (Some t) = cond (lt along zero_f && gt t zero_f) (lowered k s r dir t) (onward_with s r)
+  clipped_at k s r dir along None = cond (gt along (eps_tol f)) (ended_with s (Ok None)) (onward_with s r)
 
   unfoldable pub clipped : Search → VoronoiSimplex → Round → Vec3 → Vertex → Turn
   clipped k s r dir support = clipped_at k s r dir (dot_v f dir r.curr_ray.dir) (ray_toi_with_halfspace f support.point dir r.curr_ray)
@@ -151,16 +152,15 @@ module _ (f : Format) where
   -- `if last_chance`, `assert!(min_bound.is_finite())`, `if max_bound - min_bound <= _eps_rel * max_bound`
   unfoldable pub bounded : Search → VoronoiSimplex → Round → Float → Turn
   bounded k s r min_bound =
-      cond r.last_chance (ended_with s Miss)
-      (cond (not (finite min_bound)) (ended_with s Refused)
-      (cond (le (◌⊖◌ f r.max_bound min_bound) (◌⊗◌ f k.eps_rel r.max_bound)) (ended_with s Miss)
+      cond r.last_chance (ended_with s (Ok None))
+      (cond (not (finite min_bound)) (ended_with s (Err would_panic))
+      (cond (le (◌⊖◌ f r.max_bound min_bound) (◌⊗◌ f k.eps_rel r.max_bound)) (ended_with s (Ok None))
       (onward_with s r)))
 
   -- `let _ = simplex.add_point(support_point.translate(-curr_ray.origin))`
-  abbrev pub added_by : VoronoiSimplex → Answer → Round → Turn
-  added_by s Answer.Yes r = onward_with s r
-  added_by s Answer.No r = onward_with s r
-  added_by s Answer.Refused r = ended_with s Refused
+  abbrev pub added_by : VoronoiSimplex → Result Bool WouldPanic → Round → Turn
+  added_by s (Ok b) r = onward_with s r
+  added_by s (Err e) r = ended_with s (Err e)
 
   unfoldable pub added : VoronoiSimplex → Round → Vertex → Turn
   added s r support =
@@ -171,14 +171,14 @@ module _ (f : Format) where
   unfoldable pub solid : Search → Round → Float → Vertex → Cast
   solid k r min_bound support =
       let scale = larger (length_v f support.point) (length_v f r.curr_ray.origin) in
-      cond (ge min_bound (◌⊗◌ f (eps_tol f) (larger scale one_f))) Miss (impact k r)
+      cond (ge min_bound (◌⊗◌ f (eps_tol f) (larger scale one_f))) (Ok None) (impact k r)
 
   -- `proj = simplex.project_origin_and_reduce()`
-  abbrev pub reduced_to : Search → VoronoiSimplex → Projected → Round → Float → Vertex → Turn
-  reduced_to k s (Projected.At proj location) r min_bound support =
+  abbrev pub reduced_to : Search → VoronoiSimplex → Result Projected WouldPanic → Round → Float → Vertex → Turn
+  reduced_to k s (Ok p) r min_bound support =
       cond (eqb s.dim 3) (ended_with s (solid k r min_bound support))
-      (onward_with s (round_of r.ltoi r.curr_ray r.ldir proj r.max_bound r.last_chance))
-  reduced_to k s Projected.Refused r min_bound support = ended_with s Refused
+      (onward_with s (round_of r.ltoi r.curr_ray r.ldir p.point r.max_bound r.last_chance))
+  reduced_to k s (Err e) r min_bound support = ended_with s (Err e)
 
   unfoldable pub reduced : Search → VoronoiSimplex → Round → Float → Vertex → Turn
   reduced k s r min_bound support = let t = project_origin_and_reduce f s in reduced_to k t.simplex t.projection r min_bound support
@@ -205,13 +205,13 @@ module _ (f : Format) where
 
   -- ---- the rounds: n are left, and at none `if niter == 100 { return None }`
   unfoldable pub run_of : Search → ℕ → VoronoiSimplex → Round → Cast
-  run_of k zero s r = Miss
+  run_of k zero s r = Ok None
   run_of k (suc n) s r = let t = turn_of k s r in after (run_of k n) t.simplex t.next
 
   -- ---- what stands before the loop
-  abbrev pub start_at : Ray → VoronoiSimplex → Projected → Turn
-  start_at ray s (Projected.At proj location) = onward_with s (round_of zero_f ray (neg_v ray.dir) proj (largest f) false)
-  start_at ray s Projected.Refused = ended_with s Refused
+  abbrev pub start_at : Ray → VoronoiSimplex → Result Projected WouldPanic → Turn
+  start_at ray s (Ok p) = onward_with s (round_of zero_f ray (neg_v ray.dir) p.point (largest f) false)
+  start_at ray s (Err e) = ended_with s (Err e)
 
   unfoldable pub start_of : Search → Turn
   start_of k =
@@ -227,4 +227,4 @@ minkowski_ray_cast f supp ray max_time =
     let ray_length = length_v f ray.dir in
     let k : Search = record { supp = supp; ray = ray; max_time = max_time; ray_length = ray_length; eps_rel = root f (eps_tol f) } in
     let t = start_of f k in
-    cond (is_zero f ray_length) Miss (after (run_of f k 100) t.simplex t.next)
+    cond (is_zero f ray_length) (Ok None) (after (run_of f k 100) t.simplex t.next)

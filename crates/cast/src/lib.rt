@@ -7,4 +7,4 @@ mod ray;
 mod rounds;
 
 pub use ray::Ray;
-pub use rounds::{Cast, minkowski_ray_cast};
+pub use rounds::{Cast, Impact, minkowski_ray_cast};

@@ -12,14 +12,8 @@ pub struct Ray {
     pub dir: Vec3,
 }
 
-// The Rust's `Option<Real>`.
-#[derive(Clone, Copy)]
-pub enum MaybeTime {
-    Some(f32),
-    None,
-}
-
 // `relative_eq!(x, 0.0)`
+#[tactic(auto, unfolding(crate::specs::Ray::is_zero))]
 pub(crate) fn is_zero(x: f32) -> bool
     ensures { result ≡ is_zero binary32 x }
 {
@@ -28,17 +22,18 @@ pub(crate) fn is_zero(x: f32) -> bool
 }
 
 // The time at which the ray meets the plane through `center`: none where they are parallel, or the plane is behind.
-pub(crate) fn ray_toi_with_halfspace(center: Vec3, normal: Vec3, ray: Ray) -> MaybeTime
+#[tactic(auto, unfolding(crate::specs::Ray::ray_toi_with_halfspace))]
+pub(crate) fn ray_toi_with_halfspace(center: Vec3, normal: Vec3, ray: Ray) -> Option<f32>
     ensures { result ≡ ray_toi_with_halfspace binary32 center normal ray }
 {
-    let dpos = center.sub(ray.origin);
+    let dpos = center - ray.origin;
     let denom = normal.dot(ray.dir);
     if is_zero(denom) {
-        return MaybeTime::None;
+        return None;
     }
     let t = normal.dot(dpos) / denom;
     if t >= 0.0 {
-        return MaybeTime::Some(t);
+        return Some(t);
     }
-    MaybeTime::None
+    None
 }

@@ -8,20 +8,26 @@ ghost use Rattle.cast.specs.Cast.{search_of, onward_with, ended_with, impact, be
 ghost use Rattle.cast.specs.Cast.{lowered, clipped, min_bound_of, bounded, added, solid, reduced, probed};
 ghost use Rattle.cast.specs.Cast.{turn_of, run_of, start_of, minkowski_ray_cast, cast_number, cast_values};
 
-use crate::ray::{MaybeTime, Ray, is_zero, ray_toi_with_halfspace};
-use reduction::Projected;
+use crate::ray::{Ray, is_zero, ray_toi_with_halfspace};
+use refusal::WouldPanic;
 use shape::{Shape, Vertex, from_shapes};
-use simplex::{Answer, VoronoiSimplex};
+use simplex::VoronoiSimplex;
+use std::ops::ControlFlow::{self, Break, Continue};
 use vector::{Pose, Vec3};
 use witnesses::{Witnesses, result};
 
-// The Rust's `Option` of a time and a direction, and the refusal.
+// The hundredth round that does not end a cast is a miss.
+const MAX_ROUNDS: usize = 100;
+
+// The time at which the ray meets the difference, and the direction there: the Rust's pair.
 #[derive(Clone, Copy)]
-pub enum Cast {
-    Impact(f32, Vec3),
-    Miss,
-    Refused,
+pub struct Impact {
+    pub time: f32,
+    pub dir: Vec3,
 }
+
+// The Rust's `Option` of an impact, none being a miss; or the refusal.
+pub type Cast = Result<Option<Impact>, WouldPanic>;
 
 // What a cast is asked, and what it computes once.
 #[derive(Clone, Copy)]
@@ -46,16 +52,18 @@ pub struct Round {
     last_chance: bool,
 }
 
+// Where a turn looks, and the support point there.
 #[derive(Clone, Copy)]
-pub enum Next {
-    Onward(Round),
-    Ended(Cast),
+pub struct Probe {
+    dir: Vec3,
+    support_point: Vertex,
 }
 
+// What a part of a turn leaves: the cast goes on with a round, or it has ended.
 #[derive(Clone, Copy)]
 pub struct Turn {
     simplex: VoronoiSimplex,
-    next: Next,
+    next: ControlFlow<Cast, Round>,
 }
 
 fn onward(simplex: VoronoiSimplex, round: Round) -> Turn
@@ -63,7 +71,7 @@ fn onward(simplex: VoronoiSimplex, round: Round) -> Turn
 {
     Turn {
         simplex,
-        next: Next::Onward(round),
+        next: Continue(round),
     }
 }
 
@@ -72,19 +80,23 @@ fn ended(simplex: VoronoiSimplex, cast: Cast) -> Turn
 {
     Turn {
         simplex,
-        next: Next::Ended(cast),
+        next: Break(cast),
     }
 }
 
 // The impact at the lower bound.
+#[tactic(auto, unfolding(crate::specs::Cast::impact))]
 fn impact_at(q: Query, r: Round) -> Cast
     ensures { result ≡ impact binary32 (search_of binary32 q) r }
 {
-    let ldir = r.ldir;
-    Cast::Impact(r.ltoi / q.ray_length, ldir)
+    Ok(Some(Impact {
+        time: r.ltoi / q.ray_length,
+        dir: r.ldir,
+    }))
 }
 
 // Whether a lower bound is past the largest time. It is divided: a product may overflow.
+#[tactic(auto, unfolding(crate::specs::Cast::beyond))]
 fn is_beyond(q: Query, ltoi: f32) -> bool
     ensures { result ≡ beyond binary32 (search_of binary32 q) ltoi }
 {
@@ -92,31 +104,26 @@ fn is_beyond(q: Query, ltoi: f32) -> bool
 }
 
 // Where the upper bound does not fall, the projection stands in for the support point.
+#[tactic(auto, unfolding(crate::specs::Cast::support_point))]
 fn support_point_of(q: Query, r: Round, dir: Vec3, stuck: bool) -> Vertex
     ensures { result ≡ support_point binary32 (search_of binary32 q) r dir stuck }
 {
     if stuck {
-        let proj = r.proj;
-        let curr_ray = r.curr_ray;
-        return Vertex::single_point(proj.add(curr_ray.origin));
+        return Vertex::single_point(r.proj + r.curr_ray.origin);
     }
-    let pos12 = q.pos12;
-    let g1 = q.g1;
-    let g2 = q.g2;
-    from_shapes(pos12, g1, g2, dir)
+    from_shapes(q.pos12, q.g1, q.g2, dir)
 }
 
 // The lower bound, refined by the separation of the witnesses along the ray.
-fn witnessed_at(q: Query, r: Round, witness1: Vec3, witness2: Vec3) -> Cast
-    ensures { result ≡ witnessed binary32 (search_of binary32 q) r witness1 witness2 }
+#[tactic(auto, unfolding(crate::specs::Cast::witnessed))]
+fn witnessed_at(q: Query, r: Round, witnesses: Witnesses) -> Cast
+    ensures { result ≡ witnessed binary32 (search_of binary32 q) r witnesses.point1 witnesses.point2 }
 {
-    let ray = q.ray;
-    let curr_ray = r.curr_ray;
-    let apart = witness1.sub(witness2).sub(ray.origin);
-    let witness_ltoi = apart.dot(curr_ray.dir);
-    if number::is_finite(witness_ltoi) & (witness_ltoi > r.ltoi) {
+    let apart = witnesses.point1 - witnesses.point2 - q.ray.origin;
+    let witness_ltoi = apart.dot(r.curr_ray.dir);
+    if number::is_finite(witness_ltoi) && witness_ltoi > r.ltoi {
         if is_beyond(q, witness_ltoi) {
-            return Cast::Miss;
+            return Ok(None);
         }
         let mut refined = r;
         refined.ltoi = witness_ltoi;
@@ -126,123 +133,112 @@ fn witnessed_at(q: Query, r: Round, witness1: Vec3, witness2: Vec3) -> Cast
 }
 
 // The last-chance path: the impact is accepted at the refined bound, or missed where that is past the largest time.
+#[tactic(auto, unfolding(crate::specs::Cast::last_chance))]
 fn last_chance_of(q: Query, simplex: VoronoiSimplex, r: Round) -> Cast
     ensures { result ≡ last_chance binary32 (search_of binary32 q) simplex r }
 {
-    match result(simplex, simplex.dim == 3) {
-        Witnesses::At(witness1, witness2) => witnessed_at(q, r, witness1, witness2),
-        Witnesses::Refused => Cast::Refused,
-    }
+    let witnesses = result(simplex, simplex.dim == 3)?;
+    witnessed_at(q, r, witnesses)
 }
 
 // A new lower bound: the ray's origin moves, and the simplex with it.
+#[tactic(auto, unfolding(crate::specs::Cast::lowered))]
 fn lowered_turn(q: Query, simplex: VoronoiSimplex, r: Round, dir: Vec3, t: f32) -> Turn
     ensures { result ≡ lowered binary32 (search_of binary32 q) simplex r dir t }
 {
     let ltoi = r.ltoi + t;
     if is_beyond(q, ltoi) {
-        return ended(simplex, Cast::Miss);
+        return ended(simplex, Ok(None));
     }
-    let curr_ray = r.curr_ray;
-    let along = curr_ray.dir;
-    let from = curr_ray.origin;
-    let shift = along.scale(t);
+    let along = r.curr_ray.dir;
+    let shift = along * t;
     // a simplex is never refused, so the answer is not looked at (`moved-done` of proofs/Simplices.antt)
-    let moved = simplex.modify_pnts(shift.neg());
-    let shifted = moved.simplex;
-    let origin = from.add(shift);
-    let proj = r.proj;
+    let moved = simplex.modify_pnts(-shift);
+    let origin = r.curr_ray.origin + shift;
     let restored = number::largest();
     let next = Round {
         ltoi,
         curr_ray: Ray { origin, dir: along },
         ldir: dir,
-        proj,
+        proj: r.proj,
         max_bound: restored,
         last_chance: false,
     };
-    onward(shifted, next)
+    onward(moved.simplex, next)
 }
 
 // The ray is clipped on the halfspace of the support point.
-fn clipped_turn(
-    q: Query,
-    simplex: VoronoiSimplex,
-    r: Round,
-    dir: Vec3,
-    support_point: Vertex,
-) -> Turn
-    ensures { result ≡ clipped binary32 (search_of binary32 q) simplex r dir support_point }
+#[tactic(auto, unfolding(crate::specs::Cast::clipped))]
+fn clipped_turn(q: Query, simplex: VoronoiSimplex, r: Round, probe: Probe) -> Turn
+    ensures { result ≡ clipped binary32 (search_of binary32 q) simplex r probe.dir probe.support_point }
 {
+    let dir = probe.dir;
     let curr_ray = r.curr_ray;
-    let point = support_point.point;
     let along = dir.dot(curr_ray.dir);
-    match ray_toi_with_halfspace(point, dir, curr_ray) {
-        MaybeTime::Some(t) => {
-            if (along < 0.0) & (t > 0.0) {
+    match ray_toi_with_halfspace(probe.support_point.point, dir, curr_ray) {
+        Some(t) => {
+            if along < 0.0 && t > 0.0 {
                 return lowered_turn(q, simplex, r, dir, t);
             }
             onward(simplex, r)
         }
-        MaybeTime::None => {
+        None => {
             if along > number::eps_tol() {
-                return ended(simplex, Cast::Miss);
+                return ended(simplex, Ok(None));
             }
             onward(simplex, r)
         }
     }
 }
 
-fn min_bound_of(r: Round, dir: Vec3, support_point: Vertex) -> f32
-    ensures { result ≡ min_bound_of binary32 r dir support_point }
+#[tactic(auto, unfolding(crate::specs::Cast::min_bound_of))]
+fn min_bound_of(r: Round, probe: Probe) -> f32
+    ensures { result ≡ min_bound_of binary32 r probe.dir probe.support_point }
 {
-    let curr_ray = r.curr_ray;
-    let point = support_point.point;
-    -dir.dot(point.sub(curr_ray.origin))
+    let dir = probe.dir;
+    -dir.dot(probe.support_point.point - r.curr_ray.origin)
 }
 
 // What is decided before the support point is added. The Rust asserts that the lower bound is finite.
+#[tactic(auto, unfolding(crate::specs::Cast::bounded))]
 fn bounded_turn(q: Query, simplex: VoronoiSimplex, r: Round, min_bound: f32) -> Turn
     ensures { result ≡ bounded binary32 (search_of binary32 q) simplex r min_bound }
 {
     if r.last_chance {
-        return ended(simplex, Cast::Miss);
+        return ended(simplex, Ok(None));
     }
     if !number::is_finite(min_bound) {
-        return ended(simplex, Cast::Refused);
+        return ended(simplex, Err(WouldPanic));
     }
     if r.max_bound - min_bound <= q.eps_rel * r.max_bound {
-        return ended(simplex, Cast::Miss);
+        return ended(simplex, Ok(None));
     }
     onward(simplex, r)
 }
 
 // Whether the point is added or not, the round goes on.
+#[tactic(auto, unfolding(crate::specs::Cast::added))]
 fn added_turn(simplex: VoronoiSimplex, r: Round, support_point: Vertex) -> Turn
     ensures { result ≡ added binary32 simplex r support_point }
 {
-    let curr_ray = r.curr_ray;
-    let origin = curr_ray.origin;
-    let grown = simplex.add_point(support_point.translate(origin.neg()));
+    let origin = r.curr_ray.origin;
+    let grown = simplex.add_point(support_point.translate(-origin));
     let larger = grown.simplex;
-    let answer = grown.answer;
-    match answer {
-        Answer::Yes => onward(larger, r),
-        Answer::No => onward(larger, r),
-        Answer::Refused => ended(larger, Cast::Refused),
+    match grown.answer {
+        Ok(_) => onward(larger, r),
+        Err(refused) => ended(larger, Err(refused)),
     }
 }
 
 // The origin is inside of the difference, unless the lower bound says that it is not.
+#[tactic(auto, unfolding(crate::specs::Cast::solid))]
 fn solid_at(q: Query, r: Round, min_bound: f32, support_point: Vertex) -> Cast
     ensures { result ≡ solid binary32 (search_of binary32 q) r min_bound support_point }
 {
-    let curr_ray = r.curr_ray;
-    let point = support_point.point;
-    let origin = curr_ray.origin;
-    let scale = number::max(point.length(), origin.length());
+    let origin = r.curr_ray.origin;
+    let scale = number::max(support_point.point.length(), origin.length());
     if min_bound >= number::eps_tol() * number::max(scale, 1.0) {
-        return Cast::Miss;
+        return Ok(None);
     }
     impact_at(q, r)
 }
@@ -257,62 +253,51 @@ fn reduced_turn(
 ) -> Turn
     ensures { result ≡ reduced binary32 (search_of binary32 q) simplex r min_bound support_point }
 {
-    let found = reduction::project_origin(simplex);
-    let Projected::At(proj, location) = found else {
-        return ended(simplex, Cast::Refused);
+    let Ok(projected) = reduction::project_origin(simplex) else {
+        return ended(simplex, Err(WouldPanic));
     };
-    let applied = reduction::apply_location(simplex, location);
+    let applied = reduction::apply_location(simplex, projected.location);
     let smaller = applied.simplex;
     if smaller.dim == 3 {
         return ended(smaller, solid_at(q, r, min_bound, support_point));
     }
     let mut next = r;
-    next.proj = proj;
+    next.proj = projected.point;
     onward(smaller, next)
 }
 
 // The rest of a turn, from the support point on.
-fn probed_turn(
-    q: Query,
-    simplex: VoronoiSimplex,
-    r: Round,
-    dir: Vec3,
-    support_point: Vertex,
-) -> Turn
-    ensures { result ≡ probed binary32 (search_of binary32 q) simplex r dir support_point }
+#[tactic(auto, unfolding(crate::specs::Cast::probed))]
+fn probed_turn(q: Query, simplex: VoronoiSimplex, r: Round, probe: Probe) -> Turn
+    ensures { result ≡ probed binary32 (search_of binary32 q) simplex r probe.dir probe.support_point }
 {
-    if r.last_chance & (r.ltoi > 0.0) {
+    if r.last_chance && r.ltoi > 0.0 {
         return ended(simplex, last_chance_of(q, simplex, r));
     }
-    let clip = clipped_turn(q, simplex, r, dir, support_point);
-    let clip_next = clip.next;
-    let moved = clip.simplex;
-    let Next::Onward(c) = clip_next else {
+    let support_point = probe.support_point;
+    let clip = clipped_turn(q, simplex, r, probe);
+    let Continue(c) = clip.next else {
         return clip;
     };
-    let min_bound = min_bound_of(c, dir, support_point);
-    let bound = bounded_turn(q, moved, c, min_bound);
-    let bound_next = bound.next;
-    let kept = bound.simplex;
-    let Next::Onward(b) = bound_next else {
+    let min_bound = min_bound_of(c, probe);
+    let bound = bounded_turn(q, clip.simplex, c, min_bound);
+    let Continue(b) = bound.next else {
         return bound;
     };
-    let grown = added_turn(kept, b, support_point);
-    let grown_next = grown.next;
-    let larger = grown.simplex;
-    let Next::Onward(g) = grown_next else {
+    let grown = added_turn(bound.simplex, b, support_point);
+    let Continue(g) = grown.next else {
         return grown;
     };
-    reduced_turn(q, larger, g, min_bound, support_point)
+    reduced_turn(q, grown.simplex, g, min_bound, support_point)
 }
 
 // One turn of the Rust's loop. Where the length is a NaN or infinite, `normalize_and_length` gives 0, which is not above the
 // tolerance: an impact.
+#[tactic(auto, unfolding(crate::specs::Cast::turn_of, crate::specs::Cast::upper_bound))]
 fn turn_of(q: Query, simplex: VoronoiSimplex, r: Round) -> Turn
     ensures { result ≡ turn_of binary32 (search_of binary32 q) simplex r }
 {
-    let proj = r.proj;
-    let unit = proj.neg().normalize_and_length();
+    let unit = (-r.proj).normalize_and_length();
     let dir = unit.normalized;
     let dist = unit.length;
     if dist > number::eps_tol() {
@@ -321,34 +306,31 @@ fn turn_of(q: Query, simplex: VoronoiSimplex, r: Round) -> Turn
         let mut next = r;
         next.max_bound = dist;
         next.last_chance = r.last_chance | stuck;
-        return probed_turn(q, simplex, next, dir, support_point);
+        let probe = Probe { dir, support_point };
+        return probed_turn(q, simplex, next, probe);
     }
     ended(simplex, impact_at(q, r))
 }
 
-// The rounds: the hundredth that does not end the cast is a miss.
+// The rounds.
 fn run_of(q: Query, simplex: VoronoiSimplex, start: Round) -> Cast
     ensures { result ≡ run_of binary32 (search_of binary32 q) 100 simplex start }
 {
     let mut present = simplex;
     let mut r = start;
-    let mut niter: usize = 0;
-    while niter < 100 {
+    for _ in 0..MAX_ROUNDS {
         let turn = turn_of(q, present, r);
-        let next = turn.next;
-        let last = turn.simplex;
-        match next {
-            Next::Ended(cast) => {
+        match turn.next {
+            Break(cast) => {
                 return cast;
             }
-            Next::Onward(t) => {
-                present = last;
+            Continue(t) => {
+                present = turn.simplex;
                 r = t;
             }
         }
-        niter = niter + 1;
     }
-    Cast::Miss
+    Ok(None)
 }
 
 // What stands before the loop: a new simplex of the support point against the ray, and its projection. `reset` takes a new simplex
@@ -356,28 +338,22 @@ fn run_of(q: Query, simplex: VoronoiSimplex, start: Round) -> Cast
 fn start_of(q: Query) -> Turn
     ensures { result ≡ start_of binary32 (search_of binary32 q) }
 {
-    let ray = q.ray;
-    let origin = ray.origin;
-    let given = ray.dir;
-    let along = given.div(q.ray_length);
-    let dir = along.neg();
-    let pos12 = q.pos12;
-    let g1 = q.g1;
-    let g2 = q.g2;
-    let support_point = from_shapes(pos12, g1, g2, dir);
-    let begun = VoronoiSimplex::new().reset(support_point.translate(origin.neg()));
+    let origin = q.ray.origin;
+    let along = q.ray.dir / q.ray_length;
+    let dir = -along;
+    let support_point = from_shapes(q.pos12, q.g1, q.g2, dir);
+    let begun = VoronoiSimplex::new().reset(support_point.translate(-origin));
     let one = begun.simplex;
-    let found = reduction::project_origin(one);
-    let Projected::At(proj, location) = found else {
-        return ended(one, Cast::Refused);
+    let Ok(projected) = reduction::project_origin(one) else {
+        return ended(one, Err(WouldPanic));
     };
-    let applied = reduction::apply_location(one, location);
+    let applied = reduction::apply_location(one, projected.location);
     let simplex = applied.simplex;
     let round = Round {
         ltoi: 0.0,
         curr_ray: Ray { origin, dir: along },
         ldir: dir,
-        proj,
+        proj: projected.point,
         max_bound: number::largest(),
         last_chance: false,
     };
@@ -385,6 +361,7 @@ fn start_of(q: Query) -> Turn
 }
 
 // The time at which a ray meets the difference `g1 - pos12 * g2`, with the direction there; or a miss.
+#[tactic(auto, unfolding(crate::specs::Cast::minkowski_ray_cast, crate::specs::Cast::after))]
 pub fn minkowski_ray_cast(
     pos12: Pose,
     g1: Shape,
@@ -395,10 +372,9 @@ pub fn minkowski_ray_cast(
     ensures answer { result ≡ minkowski_ray_cast binary32 (from_shapes binary32 pos12 g1 g2) ray max_time_of_impact }
     ensures told { Told cast_number cast_values result (minkowski_ray_cast binary32 (from_shapes binary32 pos12 g1 g2) ray max_time_of_impact) }
 {
-    let given = ray.dir;
-    let ray_length = given.length();
+    let ray_length = ray.dir.length();
     if is_zero(ray_length) {
-        return Cast::Miss;
+        return Ok(None);
     }
     let q = Query {
         pos12,
@@ -410,10 +386,8 @@ pub fn minkowski_ray_cast(
         eps_rel: number::eps_rel(),
     };
     let start = start_of(q);
-    let next = start.next;
-    let simplex = start.simplex;
-    match next {
-        Next::Ended(cast) => cast,
-        Next::Onward(r) => run_of(q, simplex, r),
+    match start.next {
+        Break(cast) => cast,
+        Continue(r) => run_of(q, start.simplex, r),
     }
 }

@@ -11,8 +11,9 @@ use lib.IntN.{ℤ, pos, nat_abs, zero-*ℤ}
 use lib.ListN.{length}
 use lib.Signed.{lt_z, lt_z_yes, lt_z_no, ≤ℤ_refl}
 use Rattle.certificate.specs.declared.GridVector.{GridVector}
-use Rattle.certificate.specs.declared.Certificate.{Certificate}
-use Rattle.certificate.specs.declared.Certificate.TheVariants.{Accepted, BadLength, OutOfRange, NotSeparated}
+use Rattle.std.specs.Prelude.{Result, Ok, Err}
+use Rattle.certificate.specs.declared.Declined.{Declined}
+use Rattle.certificate.specs.declared.Declined.TheVariants.{BadLength, OutOfRange, NotSeparated}
 use Rattle.certificate.specs.Certificate.{every, is_hull, on_grid, vector_on_grid, corners, product, above, separated, certify, certificate_number}
 use Rattle.certificate.specs.Exactly.{CornersIn, Lengths, InRange, Ranges, Apart, Meeting}
 use Rattle.certificate.proofs.Tests.{split, join, known, each, every_of, some-fails, not-every, T_of, of_T, T-not-of}
@@ -25,31 +26,31 @@ has-corner n h = omega (arith, leb-true 1 (n / 3) (split (eqb (n % 3) 0) (leb 1 
 
 -- ---- the four ways through the tests
 module _ (first second : List ℤ) (d : GridVector) where
-  pub bad-length : is_hull (length first) && is_hull (length second) ≡ false → certify first second d ≡ BadLength
+  pub bad-length : is_hull (length first) && is_hull (length second) ≡ false → certify first second d ≡ Err BadLength
   unfolding certify
   bad-length h = rw h
 
-  pub out_of_range : is_hull (length first) && is_hull (length second) ≡ true → every on_grid first && every on_grid second && vector_on_grid d ≡ false → certify first second d ≡ OutOfRange
+  pub out_of_range : is_hull (length first) && is_hull (length second) ≡ true → every on_grid first && every on_grid second && vector_on_grid d ≡ false → certify first second d ≡ Err OutOfRange
   unfolding certify
   out_of_range h k = rw (h, k)
 
-  pub accepted : is_hull (length first) && is_hull (length second) ≡ true → every on_grid first && every on_grid second && vector_on_grid d ≡ true → separated d (corners first) (corners second) ≡ true → certify first second d ≡ Accepted
+  pub accepted : is_hull (length first) && is_hull (length second) ≡ true → every on_grid first && every on_grid second && vector_on_grid d ≡ true → separated d (corners first) (corners second) ≡ true → certify first second d ≡ Ok tt
   unfolding certify
   accepted h k s = rw (h, k, s)
 
-  pub not-separated : is_hull (length first) && is_hull (length second) ≡ true → every on_grid first && every on_grid second && vector_on_grid d ≡ true → separated d (corners first) (corners second) ≡ false → certify first second d ≡ NotSeparated
+  pub not-separated : is_hull (length first) && is_hull (length second) ≡ true → every on_grid first && every on_grid second && vector_on_grid d ≡ true → separated d (corners first) (corners second) ≡ false → certify first second d ≡ Err NotSeparated
   unfolding certify
   not-separated h k s = rw (h, k, s)
 
 -- ---- and no other
-abbrev chosen : Bool → Bool → Bool → Certificate
-chosen lengths ranges apart = cond lengths (cond ranges (cond apart Accepted NotSeparated) OutOfRange) BadLength
+abbrev chosen : Bool → Bool → Bool → Result (Unit {0}) Declined
+chosen lengths ranges apart = cond lengths (cond ranges (cond apart (Ok tt) (Err NotSeparated)) (Err OutOfRange)) (Err BadLength)
 
 record Tests (lengths ranges apart : Bool) : Type 0 where
   bad-length-only : certificate_number (chosen lengths ranges apart) ≡ 9 → lengths ≡ false
   out-of-range-only : certificate_number (chosen lengths ranges apart) ≡ 10 → (lengths ≡ true) × (ranges ≡ false)
   not-separated-only : certificate_number (chosen lengths ranges apart) ≡ 11 → (lengths ≡ true) × (ranges ≡ true) × (apart ≡ false)
-  accepted-only-then : chosen lengths ranges apart ≡ Accepted → (lengths ≡ true) × (ranges ≡ true) × (apart ≡ true)
+  accepted-only-then : chosen lengths ranges apart ≡ Ok tt → (lengths ≡ true) × (ranges ≡ true) × (apart ≡ true)
 
 no : (m n : ℕ) → m ≡ n → eqb m n ≡ false → ⊥
 no m n e h = eqb-false m n h e
@@ -82,12 +83,12 @@ tests false ranges apart = record {
 }
 
 -- the number 0 is acceptance
-pub accepted-number : (c : Certificate) → certificate_number c ≡ 0 → c ≡ Accepted
+pub accepted-number : (c : Result (Unit {0}) Declined) → certificate_number c ≡ 0 → c ≡ Ok tt
 unfolding certificate_number
-accepted-number Accepted e = refl
-accepted-number BadLength e = absurd (no 9 0 e refl)
-accepted-number OutOfRange e = absurd (no 10 0 e refl)
-accepted-number NotSeparated e = absurd (no 11 0 e refl)
+accepted-number (Ok tt) e = refl
+accepted-number (Err BadLength) e = absurd (no 9 0 e refl)
+accepted-number (Err OutOfRange) e = absurd (no 10 0 e refl)
+accepted-number (Err NotSeparated) e = absurd (no 11 0 e refl)
 
 -- ---- the tests in words
 corners-in : (n : ℕ) → is_hull n ≡ true → CornersIn n
@@ -182,11 +183,11 @@ module _ (first second : List ℤ) (d : GridVector) where
   decided : Tests (is_hull (length first) && is_hull (length second)) (every on_grid first && every on_grid second && vector_on_grid d) (separated d (corners first) (corners second))
   decided = tests (is_hull (length first) && is_hull (length second)) (every on_grid first && every on_grid second && vector_on_grid d) (separated d (corners first) (corners second))
 
-  pub accepted-only : certify first second d ≡ Accepted → (is_hull (length first) && is_hull (length second) ≡ true) × (every on_grid first && every on_grid second && vector_on_grid d ≡ true) × (separated d (corners first) (corners second) ≡ true)
+  pub accepted-only : certify first second d ≡ Ok tt → (is_hull (length first) && is_hull (length second) ≡ true) × (every on_grid first && every on_grid second && vector_on_grid d ≡ true) × (separated d (corners first) (corners second) ≡ true)
   unfolding certify
   accepted-only e = decided.accepted-only-then e
 
-  pub accepted-exactly : certify first second d ≡ Accepted ↔ (Lengths first second × Ranges first second d × Apart d (corners first) (corners second))
+  pub accepted-exactly : certify first second d ≡ Ok tt ↔ (Lengths first second × Ranges first second d × Apart d (corners first) (corners second))
   accepted-exactly = (
     λ e. let w = accepted-only e in ((lengths-said first second).0 w.0, (ranges-said first second d).0 w.1, (apart-said d (corners first) (corners second)).0 w.2),
     λ f. accepted first second d ((lengths-said first second).1 f.0) ((ranges-said first second d).1 f.1) ((apart-said d (corners first) (corners second)).1 f.2),

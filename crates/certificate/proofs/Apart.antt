@@ -8,7 +8,7 @@ use native.Mathlib.Omega.{arith}
 use lib.IntN.{ℤ, pos, ◌+ℤ◌, ◌*ℤ◌, +ℤ_idr, *ℤ-zero, zero-*ℤ}
 use lib.ListN.{length}
 use Rattle.certificate.specs.declared.GridVector.{GridVector}
-use Rattle.certificate.specs.declared.Certificate.TheVariants.{Accepted}
+use Rattle.std.specs.Prelude.{Ok}
 use Rattle.certificate.specs.Certificate.{every, above, product, corners, separated, certify, certificate_number}
 use Rattle.certificate.specs.Hulls.{total, weighted, HullPoint, SameAlong, SamePoint}
 use Rattle.certificate.proofs.Tests.{each}
@@ -94,7 +94,7 @@ never_both d first second apart p q same =
     positive v w h k = let m : 1 * 1 ≤ v * w = mul-le-mul h k in omega arith
 
 -- Acceptance means that no point is in both hulls.
-pub apart : (first second : List ℤ) (d : GridVector) → certify first second d ≡ Accepted → (p : HullPoint (corners first)) (q : HullPoint (corners second)) → SamePoint p q → ⊥
+pub apart : (first second : List ℤ) (d : GridVector) → certify first second d ≡ Ok tt → (p : HullPoint (corners first)) (q : HullPoint (corners second)) → SamePoint p q → ⊥
 apart first second d accepted = never_both d (corners first) (corners second) (accepted-only first second d accepted).2
 
 -- The same of the number that goes over to other languages.

@@ -6,7 +6,7 @@ use native.Mathlib.Omega.{arith}
 use lib.IntN.{ℤ, pos, ◌+ℤ◌, ◌*ℤ◌, +ℤ_idl, +ℤ_idr, zero-*ℤ, suc_ℤ-*ℤ}
 use lib.ListN.{length}
 use Rattle.certificate.specs.declared.GridVector.{GridVector}
-use Rattle.certificate.specs.declared.Certificate.TheVariants.{Accepted}
+use Rattle.std.specs.Prelude.{Ok}
 use Rattle.certificate.specs.Certificate.{corners, certify}
 use Rattle.certificate.specs.Hulls.{total, weighted, HullPoint, SameAlong, SamePoint}
 use Rattle.certificate.proofs.Apart.{apart}
@@ -70,5 +70,5 @@ module _ (first second : List GridVector) {c : GridVector} (m : Memᴰ c first) 
   pub common : SamePoint (point first m) (point second n)
   common = record { same_x = along (λ (v : GridVector). v.x); same_y = along (λ (v : GridVector). v.y); same_z = along (λ (v : GridVector). v.z) }
 
-pub never-accepted : (first second : List ℤ) (d : GridVector) {c : GridVector} → Memᴰ c (corners first) → Memᴰ c (corners second) → certify first second d ≡ Accepted → ⊥
+pub never-accepted : (first second : List ℤ) (d : GridVector) {c : GridVector} → Memᴰ c (corners first) → Memᴰ c (corners second) → certify first second d ≡ Ok tt → ⊥
 never-accepted first second d m n e = apart first second d e (point (corners first) m) (point (corners second) n) (common (corners first) (corners second) m n)

@@ -1,15 +1,16 @@
 -- The order of whole numbers, as tests, and what it says of the corners above a number. Assumes nothing.
-use mathlib.Core.Path.{◌≡◌, refl}
-use mathlib.Core.Bool.{true, false, ◌&&◌, true≢false, false≢true}
+use mathlib.Core.Path.{◌≡◌, refl, sym, ◌∙◌}
+use mathlib.Core.Bool.{true, false, ◌&&◌, and_comm, true≢false, false≢true}
 use mathlib.Core.List.{List}
 use mathlib.Core.Logic.{◌⊎◌, inl, inr}
 use native.Mathlib.Omega.{arith}
 use borrow.Author.Tests.{ltb-true, ltb-false, lt-ltb}
 use lib.IntN.{ℤ, pos, negsuc}
-use lib.Signed.{lt_z, ◌≤ℤ◌, lt_z_yes, clash_ℤ}
+use lib.Signed.{lt_z, le_z, ◌≤ℤ◌, lt_z_yes, lt_z_no, le_z_yes, clash_ℤ}
+use Rattle.std.specs.Int.{int_max}
 use Rattle.certificate.specs.declared.GridVector.{GridVector}
 use Rattle.certificate.specs.Certificate.{every, above, product}
-use Rattle.certificate.proofs.Tests.{implied, every-implied, known, T_of}
+use Rattle.certificate.proofs.Tests.{implied, every-implied, known, T_of, of_T, T-not-of}
 
 -- a < b < c
 lt_trans : (a b c : ℤ) → lt_z a b ≡ true → lt_z b c ≡ true → lt_z a c ≡ true
@@ -37,16 +38,33 @@ not-less a b h = by (known (lt_z a b))
     by (inl e) = clash_ℤ (lt_z_yes (T_of e)) h
     by (inr e) = e
 
+pub less_of-not-at-most : (a b : ℤ) → le_z a b ≡ false → lt_z b a ≡ true
+less_of-not-at-most a b h = by (known (lt_z b a))
+  where
+    by : (lt_z b a ≡ true) ⊎ (lt_z b a ≡ false) → lt_z b a ≡ true
+    by (inl e) = e
+    by (inr e) = absurd (false≢true (sym h ∙ of_T (le_z a b) (lt_z_no {a = b} {b = a} (T-not-of (lt_z b a) e)).le))
+
+pub not-less_of-at-most : (a b : ℤ) → le_z a b ≡ true → lt_z b a ≡ false
+not-less_of-at-most a b h = not-less b a (le_z_yes (T_of h))
+
 -- of two numbers the greater decides
-module _ (d : GridVector) (top p : ℤ) (second : List GridVector) where
-  pub greater-decides : lt_z top p ≡ true → every (above d top) second && every (above d p) second ≡ every (above d p) second
+module _ (d : GridVector) (a b : ℤ) (second : List GridVector) where
+  greater-decides : lt_z a b ≡ true → every (above d a) second && every (above d b) second ≡ every (above d b) second
   unfolding above
   greater-decides h =
-      implied (every (above d top) second) (every (above d p) second)
-      (every-implied (above d p) (above d top) (λ c k. lt_trans top p (product d c) h k) second)
+      implied (every (above d a) second) (every (above d b) second)
+      (every-implied (above d b) (above d a) (λ c k. lt_trans a b (product d c) h k) second)
 
-  pub other-decides : lt_z top p ≡ false → every (above d p) second && every (above d top) second ≡ every (above d top) second
+  other-decides : lt_z a b ≡ false → every (above d b) second && every (above d a) second ≡ every (above d a) second
   unfolding above
   other-decides h =
-      implied (every (above d p) second) (every (above d top) second)
-      (every-implied (above d top) (above d p) (λ c k. not-lt top p (product d c) h k) second)
+      implied (every (above d b) second) (every (above d a) second)
+      (every-implied (above d a) (above d b) (λ c k. not-lt a b (product d c) h k) second)
+
+pub greatest-decides : (d : GridVector) (a b : ℤ) (second : List GridVector) → every (above d (int_max a b)) second ≡ every (above d a) second && every (above d b) second
+greatest-decides d a b second = by (known (lt_z b a))
+  where
+    by : (lt_z b a ≡ true) ⊎ (lt_z b a ≡ false) → every (above d (int_max a b)) second ≡ every (above d a) second && every (above d b) second
+    by (inl e) = rw e (sym (greater-decides d b a second e) ∙ and_comm (every (above d b) second) (every (above d a) second))
+    by (inr e) = rw e (sym (other-decides d b a second e))

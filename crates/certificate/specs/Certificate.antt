@@ -1,9 +1,9 @@
 -- Ticket 12, the checker: when a direction is accepted as proof that two hulls are apart, and which refusal is given otherwise. Over whole numbers of any size, exactly. Definitions only.
-use Rattle.std.specs.Prelude.{ℕ, ◌/◌, ◌%◌, Bool, true, cond, ◌&&◌, List, [], ◌∷◌, eqb, leb, ℤ, nat_abs, ◌+ℤ◌, ◌*ℤ◌, length}
+use Rattle.std.specs.Prelude.{ℕ, ◌/◌, ◌%◌, Bool, true, cond, ◌&&◌, List, [], ◌∷◌, eqb, leb, ℤ, nat_abs, ◌+ℤ◌, ◌*ℤ◌, length, Result, Ok, Err}
 use Rattle.std.specs.Int.Signed.{lt_z}
 use Rattle.certificate.specs.declared.GridVector.{GridVector}
-use Rattle.certificate.specs.declared.Certificate.{Certificate}
-use Rattle.certificate.specs.declared.Certificate.TheVariants.{Accepted, BadLength, OutOfRange, NotSeparated}
+use Rattle.certificate.specs.declared.Declined.{Declined}
+use Rattle.certificate.specs.declared.Declined.TheVariants.{BadLength, OutOfRange, NotSeparated}
 
 -- whether each element of a list passes a test
 unfoldable pub every : {A : Type 0} → (A → Bool) → List A → Bool
@@ -45,17 +45,17 @@ separated d first second = every (λ (c : GridVector). every (above d (product d
 
 -- ---- the checker: lengths first, then ranges, then products
 
-unfoldable pub certify : List ℤ → List ℤ → GridVector → Certificate
+unfoldable pub certify : List ℤ → List ℤ → GridVector → Result (Unit {0}) Declined
 certify first second d =
     cond (is_hull (length first) && is_hull (length second))
     (cond (every on_grid first && every on_grid second && vector_on_grid d)
-    (cond (separated d (corners first) (corners second)) Accepted NotSeparated)
-    OutOfRange)
-    BadLength
+    (cond (separated d (corners first) (corners second)) (Ok tt) (Err NotSeparated))
+    (Err OutOfRange))
+    (Err BadLength)
 
 -- the numbers of the answers: 0, and refusals 9, 10 and 11
-unfoldable pub certificate_number : Certificate → ℕ
-certificate_number Accepted = 0
-certificate_number BadLength = 9
-certificate_number OutOfRange = 10
-certificate_number NotSeparated = 11
+unfoldable pub certificate_number : Result (Unit {0}) Declined → ℕ
+certificate_number (Ok _) = 0
+certificate_number (Err BadLength) = 9
+certificate_number (Err OutOfRange) = 10
+certificate_number (Err NotSeparated) = 11

@@ -2,9 +2,9 @@
 // a corner, and a direction. Nothing is written, and nothing has to be known of how the direction was found.
 #![tactic(auto)]
 
-ghost use Rattle.std.specs.Prelude.{◌+◌, ◌≤◌, ◌<◌, ◌≡◌, true, ◌*ℤ◌, length};
+ghost use Rattle.std.specs.Prelude.{◌+◌, ◌≤◌, ◌≡◌, true, ◌*ℤ◌, length, [], ◌∷◌, MatchOption, IfSome, IsSome};
 ghost use Rattle.certificate.specs.Certificate.{every, is_hull, on_grid, vector_on_grid, corners, product, above, certify, certificate_number};
-ghost use Rattle.certificate.specs.Parts.{corner_at, Bounds};
+ghost use Rattle.certificate.specs.Parts.{Bounds};
 
 // A corner or a direction, on the cell's grid.
 #[repr(C)]
@@ -15,16 +15,36 @@ pub struct GridVector {
     pub z: i32,
 }
 
-#[derive(Clone, Copy)]
-pub enum Certificate {
-    // Every corner of the first hull has a strictly smaller product with the direction than every corner of the second.
-    Accepted,
+// Why a direction is declined.
+#[derive(Clone, Copy, Debug, PartialEq, Eq)]
+pub enum Declined {
     // Refusal 9: a hull has not 1 to 64 corners.
     BadLength,
     // Refusal 10: a number of a hull or of the direction is not from -1,048,576 to 1,048,576.
     OutOfRange,
     // Refusal 11: some two corners are not strictly apart along the direction.
     NotSeparated,
+}
+
+// A corner or a direction that is known to be on the grid.
+#[derive(Clone, Copy)]
+struct OnGrid {
+    vector: GridVector,
+    ghost in_range: { vector_on_grid vector ≡ true },
+}
+
+// A hull's numbers, or those from a corner on, known to be on the grid.
+#[derive(Clone, Copy)]
+struct GridHull<'a> {
+    numbers: &'a [i32],
+    ghost in_range: { every on_grid numbers.now ≡ true },
+}
+
+// A corner, and the hull without it.
+#[derive(Clone, Copy)]
+struct Split<'a> {
+    corner: OnGrid,
+    rest: GridHull<'a>,
 }
 
 // Whether n numbers are 1 to 64 corners.
@@ -49,94 +69,97 @@ fn vector_on_grid(v: GridVector) -> bool
 fn every_on_grid(hull: &[i32]) -> bool
     ensures { result ≡ every on_grid hull.now }
 {
-    let mut i = 0;
-    while i < hull.len() {
-        if !on_grid(hull[i]) {
+    for n in hull {
+        if !on_grid(*n) {
             return false;
         }
-        i += 1;
     }
     true
-}
-
-// The corner whose first number has the place i.
-fn corner_at(hull: &[i32], i: usize) -> GridVector
-    requires in_room { i + 2 < length hull.now }
-    requires hull_in_range { every on_grid hull.now ≡ true }
-    ensures place { result ≡ corner_at hull.now i }
-    ensures range { vector_on_grid result ≡ true }
-{
-    GridVector {
-        x: hull[i],
-        y: hull[i + 1],
-        z: hull[i + 2],
-    }
 }
 
 fn times(a: i32, b: i32) -> i64
     ensures { result ≡ a *ℤ b }
 {
-    (a as i64) * (b as i64)
+    i64::from(a) * i64::from(b)
 }
 
 // Three products up to 2^40 each. Without the range their sum might not fit.
-fn product(d: GridVector, c: GridVector) -> i64
-    requires direction_in_range { vector_on_grid d ≡ true }
-    requires corner_in_range { vector_on_grid c ≡ true }
-    ensures { result ≡ product d c }
+fn product(direction: OnGrid, corner: OnGrid) -> i64
+    ensures { result ≡ product direction.vector corner.vector }
 {
+    let d = direction.vector;
+    let c = corner.vector;
     times(d.x, c.x) + times(d.y, c.y) + times(d.z, c.z)
 }
 
-// The greatest product of a corner: what is above it is above every corner's.
-fn greatest(d: GridVector, hull: &[i32]) -> i64
-    requires direction_in_range { vector_on_grid d ≡ true }
-    requires hull_in_range { every on_grid hull.now ≡ true }
-    requires has_corner { 3 ≤ length hull.now }
-    ensures { Bounds d (corners hull.now) result }
-{
-    let mut top = product(d, corner_at(hull, 0));
-    let mut i = 3;
-    while i + 2 < hull.len() {
-        let p = product(d, corner_at(hull, i));
-        if top < p {
-            top = p;
-        }
-        i += 3;
+impl<'a> GridHull<'a> {
+    // The first corner, and what stands after it. One or two numbers that are left over make none.
+    fn split_first(self) -> Option<Split<'a>>
+        ensures parts { MatchOption result (corners self.entry.numbers.now ≡ []) (λ s. corners self.entry.numbers.now ≡ s.corner.vector ∷ corners s.rest.numbers.now) }
+        ensures fewer { IfSome result (λ s. length s.rest.numbers.now + 3 ≡ length self.entry.numbers.now) }
+        ensures there { 3 ≤ length self.entry.numbers.now → IsSome result }
+    {
+        let [x, y, z, numbers @ ..] = self.numbers else {
+            return None;
+        };
+        let vector = GridVector {
+            x: *x,
+            y: *y,
+            z: *z,
+        };
+        Some(Split {
+            corner: OnGrid { vector },
+            rest: GridHull { numbers },
+        })
     }
-    top
-}
 
-// Whether every corner's product is above n.
-fn every_above(d: GridVector, n: i64, hull: &[i32]) -> bool
-    requires direction_in_range { vector_on_grid d ≡ true }
-    requires hull_in_range { every on_grid hull.now ≡ true }
-    ensures { result ≡ every (above d n) (corners hull.now) }
-{
-    let mut i = 0;
-    while i + 2 < hull.len() {
-        if !(n < product(d, corner_at(hull, i))) {
-            return false;
+    // The greatest product of a corner: what is above it is above every corner's.
+    fn greatest(self, direction: OnGrid) -> i64
+        requires { 3 ≤ length self.numbers.now }
+        ensures { Bounds direction.vector (corners self.entry.numbers.now) result }
+    {
+        let first = self.split_first().unwrap();
+        let mut top = product(direction, first.corner);
+        let mut left = first.rest;
+        while let Some(split) = left.split_first() {
+            top = top.max(product(direction, split.corner));
+            left = split.rest;
         }
-        i += 3;
+        top
     }
-    true
+
+    // Whether every corner's product is above n.
+    fn every_above(self, direction: OnGrid, n: i64) -> bool
+        ensures { result ≡ every (above direction.vector n) (corners self.entry.numbers.now) }
+    {
+        let mut left = self;
+        while let Some(split) = left.split_first() {
+            if product(direction, split.corner) <= n {
+                return false;
+            }
+            left = split.rest;
+        }
+        true
+    }
 }
 
 // The lengths are asked first, then the ranges, then the products.
-pub fn certify(first: &[i32], second: &[i32], direction: GridVector) -> Certificate
+pub fn certify(first: &[i32], second: &[i32], direction: GridVector) -> Result<(), Declined>
     ensures answer { result ≡ certify first.now second.now direction }
     ensures number { certificate_number result ≡ certificate_number (certify first.now second.now direction) }
 {
     if !(is_hull(first.len()) & is_hull(second.len())) {
-        return Certificate::BadLength;
+        return Err(Declined::BadLength);
     }
     if !(every_on_grid(first) & every_on_grid(second) & vector_on_grid(direction)) {
-        return Certificate::OutOfRange;
+        return Err(Declined::OutOfRange);
     }
-    if every_above(direction, greatest(direction, first), second) {
-        Certificate::Accepted
+    let along = OnGrid { vector: direction };
+    let below = GridHull { numbers: first };
+    let beyond = GridHull { numbers: second };
+    if beyond.every_above(along, below.greatest(along)) {
+        Ok(())
     } else {
-        Certificate::NotSeparated
+        Err(Declined::NotSeparated)
     }
 }

@@ -3,11 +3,13 @@
 use mathlib.Core.Path.{◌≡◌, refl, ap, sym, ◌∙◌}
 use mathlib.Core.Bool.{Bool}
 use lib.Ieee.{Float, Format}
+use Rattle.std.specs.Prelude.{Result, Ok, Err}
+use Rattle.refusal.specs.declared.WouldPanic.{WouldPanic}
 use Rattle.vector.specs.declared.vec3.Vec3.{Vec3}
 use Rattle.vector.specs.declared.pose.Pose.{Pose}
 use Rattle.shape.specs.declared.support.Shape.{Shape}
 use Rattle.gjk.specs.declared.rounds.GJKResult.{GJKResult}
-use Rattle.gjk.specs.declared.rounds.GJKResult.TheVariants.{Intersection, ClosestPoints, Proximity, NoIntersection, Refused}
+use Rattle.gjk.specs.declared.rounds.GJKResult.TheVariants.{Intersection, ClosestPoints, Proximity, NoIntersection}
 use Rattle.epa_polytope.specs.Stores.{Lists}
 use Rattle.epa_polytope.specs.Same.{Equivalent}
 use Rattle.epa_polytope.specs.declared.types.Store.{Store}
@@ -18,25 +20,25 @@ use Rattle.epa.specs.Final.{Final, answered, penetration}
 use Rattle.epa.specs.Final as Runs
 use Rattle.epa.proofs.Agreement.{penetrations-agree, penetrations-same}
 use Rattle.lines.specs.declared.line.Outcome.{Outcome}
-use Rattle.outcome.specs.Outcome.{counts_of, ended_as, outcome_of}
+use Rattle.outcome.specs.Outcome.{ended_as, outcome_of}
 use Rattle.channel.specs.Channel.{distance, by_result, separated, HadRoom}
 
 -- what is placed by its letter is placed by its end
 placed-run : (x : Epa.Answer) → HadRoom (outcome_of x) → Runs.HadRoom x
 unfolding outcome_of
-placed-run x p y e = p (counts_of x.counts) (ap (λ (z : End). ended_as z (counts_of x.counts)) e)
+placed-run x p y e = p x.counts (ap (λ (z : End). ended_as z x.counts) e)
 
 -- one answer of the polytope is one outcome, whatever GJK's result
-same-result : (q : GJKResult) (a b : Final Epa.Answer) (kept_a kept_b : Outcome → Final Outcome) → ((o : Outcome) → (kept_a o).answer ≡ o) → ((o : Outcome) → (kept_b o).answer ≡ o)
-    → (q ≡ Intersection → a.answer ≡ b.answer) → (by_result q (answered outcome_of a) kept_a).answer ≡ (by_result q (answered outcome_of b) kept_b).answer
-same-result Intersection a b k_a k_b e_a e_b same = ap outcome_of (same refl)
-same-result (ClosestPoints p1 p2 d) a b k_a k_b e_a e_b same = e_a _ ∙ sym (e_b _)
-same-result (Proximity d) a b k_a k_b e_a e_b same = e_a _ ∙ sym (e_b _)
-same-result (NoIntersection d) a b k_a k_b e_a e_b same = e_a _ ∙ sym (e_b _)
-same-result Refused a b k_a k_b e_a e_b same = e_a _ ∙ sym (e_b _)
+same-result : (q : Result GJKResult WouldPanic) (a b : Final Epa.Answer) (kept_a kept_b : Outcome → Final Outcome) → ((o : Outcome) → (kept_a o).answer ≡ o) → ((o : Outcome) → (kept_b o).answer ≡ o)
+    → (q ≡ Ok Intersection → a.answer ≡ b.answer) → (by_result q (answered outcome_of a) kept_a).answer ≡ (by_result q (answered outcome_of b) kept_b).answer
+same-result (Ok Intersection) a b k_a k_b e_a e_b same = ap outcome_of (same refl)
+same-result (Ok (ClosestPoints p1 p2 d)) a b k_a k_b e_a e_b same = e_a _ ∙ sym (e_b _)
+same-result (Ok (Proximity d)) a b k_a k_b e_a e_b same = e_a _ ∙ sym (e_b _)
+same-result (Ok (NoIntersection d)) a b k_a k_b e_a e_b same = e_a _ ∙ sym (e_b _)
+same-result (Err r) a b k_a k_b e_a e_b same = e_a _ ∙ sym (e_b _)
 
 -- an outcome of a run that meets is the polytope's
-met : (q : GJKResult) (a : Final Epa.Answer) (kept : Outcome → Final Outcome) → q ≡ Intersection → HadRoom (by_result q (answered outcome_of a) kept).answer → Runs.HadRoom a.answer
+met : (q : Result GJKResult WouldPanic) (a : Final Epa.Answer) (kept : Outcome → Final Outcome) → q ≡ Ok Intersection → HadRoom (by_result q (answered outcome_of a) kept).answer → Runs.HadRoom a.answer
 met q a kept e p = placed-run a.answer (rw e at p)
 
 module _ (f : Format) (m : Pose) (g1 g2 : Shape) (dir : Vec3) (max_dist : Float) (exact : Bool) (l k : Lists) where

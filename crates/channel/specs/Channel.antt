@@ -1,7 +1,8 @@
 -- The separation channel: the outcome of two shapes, the second in a pose, and what is left in the lent lists (document 01, "What the channel computes"). Any format. Definitions only.
 -- Document 01's number of an outcome is `outcome_number` of the crate `lines`; that it is the number of GJK's result, or of the run's end, is shown in proofs/Numbers.antt.
-use Rattle.std.specs.Prelude.{◌≡◌, Bool, Float}
+use Rattle.std.specs.Prelude.{◌≡◌, Bool, Float, Result, Ok, Err}
 use Rattle.std.specs.Float.{Format}
+use Rattle.refusal.specs.declared.WouldPanic.{WouldPanic}
 use Rattle.vector.specs.declared.vec3.Vec3.{Vec3}
 use Rattle.vector.specs.declared.pose.Pose.{Pose}
 use Rattle.shape.specs.declared.support.Shape.{Shape}
@@ -15,7 +16,7 @@ use Rattle.gjk.specs.Gjk.{closest_points}
 use Rattle.epa_polytope.specs.Stores.{Lists}
 use Rattle.epa_polytope.specs.declared.types.Walk.TheVariants.{Plain as plain}
 use Rattle.epa.specs.Final.{Final, final, answered, penetration}
-use Rattle.lines.specs.declared.line.Counts.{Counts}
+use Rattle.counts.specs.declared.Counts.{Counts}
 use Rattle.lines.specs.declared.line.Outcome.{Outcome}
 use Rattle.outcome.specs.Outcome.{outcome_of}
 
@@ -28,12 +29,12 @@ unfoldable pub distance : Format → Pose → Shape → Shape → Vec3 → Float
 distance f m g1 g2 dir max_dist exact = closest_points f (from_shapes f m g1 g2) max_dist exact (start_of f m g1 g2 dir)
 
 -- What is made of GJK's result: letters D, M, S and X, with the lists kept; or where the shapes meet, the run of the polytope
-abbrev pub by_result : GJKResult → Final Outcome → (Outcome → Final Outcome) → Final Outcome
-by_result GJKResult.Intersection meeting kept = meeting
-by_result (GJKResult.ClosestPoints p1 p2 d) meeting kept = kept (Outcome.ClosestPoints p1 p2 d)
-by_result (GJKResult.Proximity d) meeting kept = kept (Outcome.Proximity d)
-by_result (GJKResult.NoIntersection d) meeting kept = kept (Outcome.NoIntersection d)
-by_result GJKResult.Refused meeting kept = kept Outcome.Panic
+abbrev pub by_result : Result GJKResult WouldPanic → Final Outcome → (Outcome → Final Outcome) → Final Outcome
+by_result (Ok GJKResult.Intersection) meeting kept = meeting
+by_result (Ok (GJKResult.ClosestPoints p1 p2 d)) meeting kept = kept (Outcome.ClosestPoints p1 p2 d)
+by_result (Ok (GJKResult.Proximity d)) meeting kept = kept (Outcome.Proximity d)
+by_result (Ok (GJKResult.NoIntersection d)) meeting kept = kept (Outcome.NoIntersection d)
+by_result (Err e) meeting kept = kept Outcome.Panic
 
 -- after a run g of GJK, over lent lists: where the shapes meet, the polytope's run from the simplex that g left; elsewhere the lists are kept
 abbrev pub separated_by : Format → Gjk → Pose → Shape → Shape → Lists → Final Outcome

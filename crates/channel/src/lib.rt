@@ -4,65 +4,71 @@
 
 ghost use Rattle.std.specs.Prelude.{◌≡◌};
 ghost use Rattle.std.specs.Float.{binary32};
-ghost use Rattle.epa.specs.Final.{all_lent, Ends};
-ghost use Rattle.epa_polytope.specs.Promises.{called};
+ghost use Rattle.epa_stores.specs.Lent.{held, Kept};
+ghost use Rattle.epa.specs.Final.{EndsAll};
 ghost use Rattle.number.specs.Told.{Told};
 ghost use Rattle.lines.specs.Lines.{outcome_number, outcome_values};
 ghost use Rattle.channel.specs.Channel.{start_of, separated};
 
+use casefile::Case;
+use epa_stores::Stores;
 use gjk::GJKResult;
 use lines::Outcome;
 use outcome::outcome_of;
-use shape::Shape;
+use refusal::WouldPanic;
+use shape::Pair;
 use simplex::VoronoiSimplex;
-use vector::{Pose, Vec3};
+use vector::Vec3;
 
 // A new simplex, reset to the support point of `dir`. It is a simplex, so that the reset is not refused.
-pub fn start_of(pos12: Pose, g1: Shape, g2: Shape, dir: Vec3) -> VoronoiSimplex
-    ensures { result ≡ start_of binary32 pos12 g1 g2 dir }
+pub fn start_of(pair: &Pair, dir: Vec3) -> VoronoiSimplex
+    ensures { result ≡ start_of binary32 pair.now.pos12 pair.now.g1 pair.now.g2 dir }
 {
-    let first = shape::from_shapes(pos12, g1, g2, dir);
-    let reset = VoronoiSimplex::new().reset(first);
-    reset.simplex
+    let first = pair.support_point(dir);
+    VoronoiSimplex::new().reset(first).simplex
 }
 
-// The channel's answer, whatever the shapes, the numbers and the stores' lengths. `pos12` is the pose of `g2` in the frame
-// of `g1`, and `dir` the direction that the simplex starts from. The stores are altered only where the shapes meet.
-pub fn separate(
-    pos12: Pose,
-    g1: Shape,
-    g2: Shape,
-    dir: Vec3,
-    max_dist: f32,
-    exact: bool,
-    vertices: &mut [f32],
-    ids: &mut [usize],
-    floats: &mut [f32],
-    deleted: &mut [u8],
-    edges: &mut [usize],
-    heap_ids: &mut [usize],
-    heap_keys: &mut [f32],
-    pending: &mut [usize],
-) -> Outcome
-    ensures answer { Ends (separated binary32 pos12 g1 g2 dir max_dist exact) result (λ m. all_lent m vertices ids floats deleted edges heap_ids heap_keys pending) }
+// The channel's answer, whatever the shapes, the numbers and the stores' lengths. The stores are altered only where the shapes meet.
+pub fn separate(asked: Case, stores: &mut Stores<'_>) -> Outcome
+    ensures answer { EndsAll (separated binary32 asked.pos12 asked.g1 asked.g2 asked.dir asked.max_dist asked.exact) result stores }
     ensures told { Told outcome_number outcome_values result
-        (separated binary32 pos12 g1 g2 dir max_dist exact (all_lent called vertices ids floats deleted edges heap_ids heap_keys pending)).answer }
+        (separated binary32 asked.pos12 asked.g1 asked.g2 asked.dir asked.max_dist asked.exact (held stores.old)).answer }
+    ensures kept { Kept stores }
 {
-    let start = start_of(pos12, g1, g2, dir);
+    let Case {
+        g1,
+        g2,
+        pos12,
+        dir,
+        max_dist,
+        exact,
+    } = asked;
+    let pair = Pair { pos12, g1, g2 };
+    let start = start_of(&pair, dir);
     let run = gjk::closest_points(pos12, g1, g2, max_dist, exact, start);
-    let result = run.result;
     let left = run.simplex;
-    match result {
-        GJKResult::Intersection => {
+    match run.result {
+        Ok(GJKResult::Intersection) => {
+            // The lists go on one by one: handed on in one value, to `closest_points_by`, they cost the program a twentieth more instructions.
             let answer = epa::closest_points_plain(
-                pos12, g1, g2, left, vertices, ids, floats, deleted, edges, heap_ids, heap_keys,
-                pending,
+                pos12,
+                g1,
+                g2,
+                left,
+                stores.vertices,
+                stores.ids,
+                stores.floats,
+                stores.deleted,
+                stores.edges,
+                stores.heap_ids,
+                stores.heap_keys,
+                stores.pending,
             );
             outcome_of(answer)
         }
-        GJKResult::ClosestPoints(p1, p2, normal) => Outcome::ClosestPoints(p1, p2, normal),
-        GJKResult::Proximity(normal) => Outcome::Proximity(normal),
-        GJKResult::NoIntersection(normal) => Outcome::NoIntersection(normal),
-        GJKResult::Refused => Outcome::Panic,
+        Ok(GJKResult::ClosestPoints(p1, p2, normal)) => Outcome::ClosestPoints(p1, p2, normal),
+        Ok(GJKResult::Proximity(normal)) => Outcome::Proximity(normal),
+        Ok(GJKResult::NoIntersection(normal)) => Outcome::NoIntersection(normal),
+        Err(WouldPanic) => Outcome::Panic,
     }
 }

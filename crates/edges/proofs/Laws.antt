@@ -2,7 +2,7 @@
 --     numbers-handed       a row's numbers are those of the store's first records, at most 206.        row-whole        all of it is there
 --     records-read         it holds those records.        published-back       publishing what was read leaves the store as it was
 --     length-published, beyond-kept        the store is as long as it was, and the places beyond the records are as they were
---     numbers-published    where a row tells as many records as were read, the store's numbers are then the row's, and what there was beyond.
+--     numbers-back         where as many numbers come back as were read, they are the store's first, and what there was beyond follows them
 use mathlib.Core.Path.{◌≡◌, sym, ap, ◌∙◌}
 use Prim.Native.Nat.{ℕ, ◌*◌, ◌≤◌, min}
 use native.Mathlib.Nat.{min-le_left, min-le_right}
@@ -38,19 +38,12 @@ pub beyond-kept : (r : Row) (es : List Edge) (k : ℕ) → length (records_of r)
 beyond-kept r es k short = drop-over k (records_of r) es short
 
 -- ---- as many records come back as were read
-module _ (r : Row) (es : List Edge) (full : length r.pairs ≡ 412) (same : r.n ≡ (row_of es).n) where
-  twice-told : length (numbers_of r) ≡ (row_of es).n * 2
-  twice-told = length-take (r.n * 2) r.pairs ∙ omega (arith, full, same, (row-whole es).0)
+numbers-told : (es : List Edge) → length (numbers_of (row_of es)) ≡ (row_of es).n * 2
+numbers-told es = length-take ((row_of es).n * 2) (row_of es).pairs ∙ omega (arith, (row-whole es).0, (row-whole es).1)
 
-  -- the records are those of the row's numbers
-  over-numbers : published r es ≡ over (records (numbers_of r)) es
-  over-numbers = ap (λ (rs : List Edge). over rs es) (records-take r.n r.pairs)
-
-  in-numbers : (row_of es).n * 2 ≡ min (length (pairs_of es)) 412
-  in-numbers = omega (arith, length_pairs es)
-
-  pub numbers-published : pairs_of (published r es) ≡ numbers_of r ++ drop 412 (pairs_of es)
-  numbers-published =
-      ap pairs_of over-numbers ∙ pairs-over (row_of es).n (numbers_of r) es twice-told
-      ∙ over-is (numbers_of r) (pairs_of es) (omega (arith, twice-told, min-le_left (length es) 206, length_pairs es))
-      ∙ ap (λ (k : ℕ). numbers_of r ++ drop k (pairs_of es)) (twice-told ∙ in-numbers) ∙ ap (λ (ps : List ℕ). numbers_of r ++ ps) (drop-short 412 (pairs_of es))
+pub numbers-back : (ps : List ℕ) (es : List Edge) → length ps ≡ length (numbers_of (row_of es)) → pairs_of (over (records ps) es) ≡ ps ++ drop 412 (pairs_of es)
+numbers-back ps es same =
+    let told : length ps ≡ (row_of es).n * 2 = same ∙ numbers-told es in
+    let in-numbers : length ps ≡ min (length (pairs_of es)) 412 = omega (arith, length_pairs es) in
+    pairs-over (row_of es).n ps es told ∙ over-is ps (pairs_of es) (omega arith) ∙ ap (λ (k : ℕ). ps ++ drop k (pairs_of es)) in-numbers
+    ∙ ap (λ (rs : List ℕ). ps ++ rs) (drop-short 412 (pairs_of es))

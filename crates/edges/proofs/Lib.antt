@@ -2,3 +2,4 @@
 pub mod Laws
 pub mod Over
 pub mod Pairs
+pub mod Lent

@@ -2,6 +2,7 @@
 --     over-next        writing element i goes from i elements to i + 1
 --     over-enough      elements beyond the store's end make no difference.        take_short, take_all     neither does `take` beyond the list's own
 --     over-some        so a loop that stops where the list, the row or the store ends has written all
+--     over-front       a store's first elements, written over, and its others
 --     over-is          where all have room, it is the first list and what the second has beyond.        take-over, drop-over     the first places, and those beyond
 use mathlib.Core.Path.{◌≡◌, refl, sym, ap, ◌∙◌, subst}
 use Prim.Native.Nat.{ℕ, zero, suc, ◌+◌, ◌<◌, ◌≤◌, min}
@@ -9,6 +10,7 @@ use native.Mathlib.Nat.{not-suc-le-zero, le_of_suc-le-suc, suc-min-suc, zero-min
 use native.Mathlib.Numerals.{add-one}
 use mathlib.Core.List.{List, [], ◌∷◌, ◌++◌}
 use lib.ListN.{length, get_or, set, take, drop, length-take}
+use Rattle.std.proofs.lemmas.List.{take-append-drop}
 use Rattle.edges.specs.Edges.{over}
 
 module _ {A : Type 0} where
@@ -66,6 +68,15 @@ module _ {A : Type 0} where
   over-some k m xs ys is =
       ap (λ (zs : List A). over zs ys) (take_min (min k m) (length ys) xs) ∙ over-enough (length ys) (take (min k m) xs) ys (le_of_eq refl)
       ∙ ap (λ (zs : List A). over zs ys) (take_min k m xs ∙ take_all m (take k xs) (subst (λ (j : ℕ). j ≤ m) (sym (length-take k xs)) (subst (λ (j : ℕ). min k (length xs) ≤ j) is (min-le_right k (length xs)))))
+
+  -- what is written over the first n elements, and the others
+  pub over-front : (n : ℕ) (xs ys : List A) → over xs (take n ys) ++ drop n ys ≡ over (take n xs) ys
+  unfolding over
+  over-front zero [] ys = refl
+  over-front zero (x ∷ xs) ys = refl
+  over-front (suc n) [] ys = take-append-drop (suc n) ys
+  over-front (suc n) (x ∷ xs) [] = refl
+  over-front (suc n) (x ∷ xs) (y ∷ ys) = ap {B = List A} (λ r. x ∷ r) (over-front n xs ys)
 
   -- nothing is written
   pub over_none : (ys : List A) → over [] ys ≡ ys

@@ -13,27 +13,18 @@ pub struct Edge {
 }
 
 // The first `n` records of a store, each a pair of places. A pass never records more than 206.
+// The length stands beside the places, since `row_of` and `publish` hand them over by value.
 #[derive(Clone, Copy)]
 pub struct Row {
     pub pairs: [usize; 412],
     pub n: usize,
 }
 
-fn smaller(a: usize, b: usize) -> usize
-    ensures { result ≡ min a b }
-{
-    if a < b {
-        return a;
-    }
-    b
-}
-
 // How many of `n` records, of which a row holds 206 at most, are written where there is room for `len`.
 fn written(n: usize, len: usize) -> usize
     ensures { result ≡ min (min n 206) len }
 {
-    let held = smaller(n, 206);
-    smaller(held, len)
+    n.min(206).min(len)
 }
 
 // The store's first records by value, at most 206.
@@ -42,12 +33,10 @@ pub fn row_of(edges: &[Edge]) -> Row
 {
     let mut pairs = [0; 412];
     let n = written(edges.len(), 206);
-    let mut i = 0;
-    while i < n {
-        let e = edges[i];
+    let first = &edges[..n];
+    for (i, e) in first.iter().enumerate() {
         pairs[i * 2] = e.face;
         pairs[i * 2 + 1] = e.corner;
-        i += 1;
     }
     Row { pairs, n }
 }
@@ -58,12 +47,11 @@ pub fn publish(edges: &mut [Edge], row: Row)
 {
     let pairs = row.pairs;
     let n = written(row.n, edges.len());
-    let mut i = 0;
-    while i < n {
-        edges[i] = Edge {
+    let first = &mut edges[..n];
+    for (i, e) in first.iter_mut().enumerate() {
+        *e = Edge {
             face: pairs[i * 2],
             corner: pairs[i * 2 + 1],
         };
-        i += 1;
     }
 }

@@ -15,11 +15,10 @@ use Rattle.lines.specs.Lines.{outcome_number}
 use Rattle.channel.specs.Channel as Channel
 use Rattle.channel_lent.proofs.Ample.{ample-separated_records, records-agree}
 use Rattle.vote.specs.declared.Answer.{Answer}
-use Rattle.vote.specs.declared.Verdict.TheVariants.{Agreed}
-use Rattle.vote.specs.Vote.{vote_of}
+use Rattle.vote.specs.Vote.{agreed, vote_of}
 use Rattle.vote.proofs.Laws.{three-same}
-use Rattle.answers.specs.declared.MaybeShape.{MaybeShape}
-use Rattle.answers.specs.declared.MaybeShape.TheVariants.{Some, None}
+use Rattle.std.specs.Prelude.{Option, Some, None, Ok}
+use Rattle.shape.specs.declared.support.Shape.{Shape}
 use Rattle.answers.specs.Answers.{answer_of, malformed, number_of}
 use Rattle.answers.proofs.Numbers.{number-told}
 use Rattle.embedding.specs.Embedding.{ran, HadRoom}
@@ -39,27 +38,27 @@ answer-placed o p c e = p (number-told o ∙ ap outcome_number e)
 
 module _ (f : Format) (m : Pose) (dir : Vec3) (max_dist : Float) (exact : Bool) where
   -- the embedded call's answer over lists that are lent with the edges as records
-  abbrev pub called : MaybeShape → MaybeShape → Lists → Answer
+  abbrev pub called : Option Shape → Option Shape → Lists → Answer
   called x1 x2 l = (on_first (ran f m x1 x2 dir max_dist exact) l).answer
 
   -- NEVER REFUSAL 3, with room that suffices
-  pub ample-ran : (x1 x2 : MaybeShape) (l : Lists) → Ample l → HadRoom (called x1 x2 l)
+  pub ample-ran : (x1 x2 : Option Shape) (l : Lists) → Ample l → HadRoom (called x1 x2 l)
   unfolding malformed number_of
   ample-ran (Some g1) (Some g2) l room = placed-answer _ (ample-separated_records f m g1 g2 dir max_dist exact l room)
   ample-ran (Some g1) None l room = λ e. omega arith
   ample-ran None x2 l room = λ e. omega arith
 
   -- TWO CALLS AGREE, neither refused for room
-  pub calls-agree : (x1 x2 : MaybeShape) (l k : Lists) → HadRoom (called x1 x2 l) → HadRoom (called x1 x2 k) → called x1 x2 l ≡ called x1 x2 k
+  pub calls-agree : (x1 x2 : Option Shape) (l k : Lists) → HadRoom (called x1 x2 l) → HadRoom (called x1 x2 k) → called x1 x2 l ≡ called x1 x2 k
   calls-agree (Some g1) (Some g2) l k p q = ap answer_of (records-agree f m g1 g2 dir max_dist exact l k (answer-placed _ p) (answer-placed _ q))
   calls-agree (Some g1) None l k p q = refl
   calls-agree None x2 l k p q = refl
 
   -- THREE CHANNELS on one record, none refused for room, are voted one, with no odd channel, whatever their stores held, NaN or not
-  pub three-channels : (x1 x2 : MaybeShape) (l k j : Lists) → HadRoom (called x1 x2 l) → HadRoom (called x1 x2 k) → HadRoom (called x1 x2 j)
-      → vote_of f (called x1 x2 l) (called x1 x2 k) (called x1 x2 j) ≡ Agreed (called x1 x2 l) 0
+  pub three-channels : (x1 x2 : Option Shape) (l k j : Lists) → HadRoom (called x1 x2 l) → HadRoom (called x1 x2 k) → HadRoom (called x1 x2 j)
+      → vote_of f (called x1 x2 l) (called x1 x2 k) (called x1 x2 j) ≡ Ok (agreed (called x1 x2 l) 0)
   three-channels x1 x2 l k j p q r =
       let a = calls-agree x1 x2 l k p q in
       let b = calls-agree x1 x2 l j p r in
-      subst (λ (y : Answer). vote_of f (called x1 x2 l) y (called x1 x2 j) ≡ Agreed (called x1 x2 l) 0) a
-      (subst (λ (y : Answer). vote_of f (called x1 x2 l) (called x1 x2 l) y ≡ Agreed (called x1 x2 l) 0) b (three-same f (called x1 x2 l)))
+      subst (λ (y : Answer). vote_of f (called x1 x2 l) y (called x1 x2 j) ≡ Ok (agreed (called x1 x2 l) 0)) a
+      (subst (λ (y : Answer). vote_of f (called x1 x2 l) (called x1 x2 l) y ≡ Ok (agreed (called x1 x2 l) 0)) b (three-same f (called x1 x2 l)))

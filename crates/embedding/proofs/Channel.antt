@@ -10,7 +10,7 @@ use Rattle.epa_polytope.specs.Stores.{Lists}
 use Rattle.epa.specs.Final.{answered}
 use Rattle.epa_lent.specs.Lent.{on_first}
 use Rattle.channel.specs.Channel.{separated}
-use Rattle.answers.specs.declared.MaybeShape.TheVariants.{Some}
+use Rattle.std.specs.Prelude.{Some}
 use Rattle.answers.specs.Answers.{answer_of}
 use Rattle.embedding.specs.Embedding.{ran}
 

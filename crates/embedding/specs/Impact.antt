@@ -1,15 +1,13 @@
 -- The cast for a caller in another language: its answer as a record. Any format. Definitions only.
-use Rattle.std.specs.Prelude.{ℕ, Float}
+use Rattle.std.specs.Prelude.{ℕ, Float, Option, Some, None}
 use Rattle.std.specs.Float.{Format}
 use Rattle.vector.specs.declared.vec3.Vec3.{Vec3}
 use Rattle.vector.specs.declared.pose.Pose.{Pose}
 use Rattle.vector.specs.Vector.{zero_f, zero_v}
 use Rattle.shape.specs.Support.{from_shapes}
 use Rattle.cast.specs.declared.ray.Ray.{Ray}
-use Rattle.cast.specs.declared.rounds.Cast.{Cast}
-use Rattle.cast.specs.Cast.{cast_number, cast_values, minkowski_ray_cast}
-use Rattle.answers.specs.declared.MaybeShape.{MaybeShape}
-use Rattle.answers.specs.declared.MaybeShape.TheVariants.{Some, None}
+use Rattle.cast.specs.Cast.{Cast, cast_number, cast_values, minkowski_ray_cast}
+use Rattle.shape.specs.declared.support.Shape.{Shape}
 use Rattle.embedding.specs.declared.impact.CastRecord.{CastRecord}
 
 abbrev pub record_of : ℕ → Float → Vec3 → CastRecord
@@ -23,7 +21,7 @@ cast_record c = record_of (cast_number c) (cast_values c).time (cast_values c).d
 unfoldable pub malformed_cast : CastRecord
 malformed_cast = record_of 4 zero_f zero_v
 
-abbrev pub cast_between : Format → Pose → MaybeShape → MaybeShape → Ray → Float → CastRecord
+abbrev pub cast_between : Format → Pose → Option Shape → Option Shape → Ray → Float → CastRecord
 cast_between f m (Some g1) (Some g2) ray max_time = cast_record (minkowski_ray_cast f (from_shapes f m g1 g2) ray max_time)
 cast_between f m (Some g1) None ray max_time = malformed_cast
 cast_between f m None x ray max_time = malformed_cast

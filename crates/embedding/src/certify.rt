@@ -4,17 +4,17 @@ ghost use Rattle.std.specs.Float.{binary32};
 ghost use Rattle.certificate.specs.Certificate.{certify, certificate_number};
 ghost use Rattle.proposal.specs.Proposal.{proposed};
 
-use certificate::{Certificate, GridVector};
+use certificate::{Declined, GridVector};
 use vector::Vec3;
 
-fn certificate_number(answer: Certificate) -> u32
+fn certificate_number(answer: Result<(), Declined>) -> u32
     ensures { result ≡ certificate_number answer }
 {
     match answer {
-        Certificate::Accepted => 0,
-        Certificate::BadLength => 9,
-        Certificate::OutOfRange => 10,
-        Certificate::NotSeparated => 11,
+        Ok(()) => 0,
+        Err(Declined::BadLength) => 9,
+        Err(Declined::OutOfRange) => 10,
+        Err(Declined::NotSeparated) => 11,
     }
 }
 

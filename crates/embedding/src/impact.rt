@@ -4,8 +4,9 @@ ghost use Rattle.std.specs.Float.{binary32};
 ghost use Rattle.answers.specs.Answers.{shape_of};
 ghost use Rattle.embedding.specs.Impact.{cast_record, malformed_cast, cast_between};
 
-use answers::{MaybeShape, ShapeRecord, shape_of};
+use answers::{ShapeRecord, shape_of};
 use cast::{Cast, Ray};
+use refusal::WouldPanic;
 use vector::{Pose, Vec3};
 
 // The number of the answer, and the time and the direction; what is no answer has zeros.
@@ -21,17 +22,17 @@ fn cast_record(cast: Cast) -> CastRecord
     ensures { result ≡ cast_record cast }
 {
     match cast {
-        Cast::Impact(time, dir) => CastRecord {
+        Ok(Some(impact)) => CastRecord {
             number: 0,
-            time,
-            dir,
+            time: impact.time,
+            dir: impact.dir,
         },
-        Cast::Miss => CastRecord {
+        Ok(None) => CastRecord {
             number: 6,
             time: 0.0,
             dir: Vec3::ZERO,
         },
-        Cast::Refused => CastRecord {
+        Err(WouldPanic) => CastRecord {
             number: 2,
             time: 0.0,
             dir: Vec3::ZERO,
@@ -60,10 +61,10 @@ pub extern "C" fn separation_cast(
 ) -> CastRecord
     ensures { result ≡ cast_between binary32 pos12 (shape_of g1) (shape_of g2) ray max_time_of_impact }
 {
-    let MaybeShape::Some(first) = shape_of(g1) else {
+    let Some(first) = shape_of(g1) else {
         return malformed_cast();
     };
-    let MaybeShape::Some(second) = shape_of(g2) else {
+    let Some(second) = shape_of(g2) else {
         return malformed_cast();
     };
     cast_record(cast::minkowski_ray_cast(pos12, first, second, ray, max_time_of_impact))

@@ -5,104 +5,20 @@
 ghost use Rattle.std.specs.Prelude.{◌≡◌};
 ghost use Rattle.std.specs.Float.{binary32};
 ghost use Rattle.vote.specs.Vote.{vote_of};
-ghost use Rattle.edges.specs.Edges.{Whole};
-ghost use Rattle.epa.specs.Final.{Ends, all_lent};
-ghost use Rattle.epa_lent.specs.Lent.{either, row_lent, records_lent, on_first};
+ghost use Rattle.epa.specs.Final.{Ends};
+ghost use Rattle.epa_lent.specs.Lent.{records_lent, on_first};
 ghost use Rattle.answers.specs.Answers.{shape_of, voted_of, number_of};
 ghost use Rattle.embedding.specs.Embedding.{ran};
 
 mod certify;
 mod impact;
 
-use answers::{MaybeShape, ShapeRecord, Voted, answer_of, malformed_answer, shape_of, voted_of};
-use edges::{Edge, Row};
+use answers::{ShapeRecord, Voted, answer_of, malformed_answer, shape_of, voted_of};
+use edges::Edge;
 use vector::{Pose, Vec3};
 use vote::Answer;
 
-// The channel over the numbers of the edges. A kind above 3 is answered as malformed, and the stores stay as they are.
-fn run_numbers(
-    pos12: Pose,
-    g1: ShapeRecord,
-    g2: ShapeRecord,
-    dir: Vec3,
-    max_dist: f32,
-    exact: bool,
-    vertices: &mut [f32],
-    ids: &mut [usize],
-    floats: &mut [f32],
-    deleted: &mut [u8],
-    edges: &mut [usize],
-    heap_ids: &mut [usize],
-    heap_keys: &mut [f32],
-    pending: &mut [usize],
-) -> Answer
-    ensures { Ends (ran binary32 pos12 (shape_of g1) (shape_of g2) dir max_dist exact) result (λ m. all_lent m vertices ids floats deleted edges heap_ids heap_keys pending) }
-{
-    let MaybeShape::Some(first) = shape_of(g1) else {
-        return malformed_answer();
-    };
-    let MaybeShape::Some(second) = shape_of(g2) else {
-        return malformed_answer();
-    };
-    let outcome = channel::separate(
-        pos12, first, second, dir, max_dist, exact, vertices, ids, floats, deleted, edges,
-        heap_ids, heap_keys, pending,
-    );
-    answer_of(outcome)
-}
-
-// What a run on a row by value answers, and the row that it leaves.
-#[derive(Clone, Copy)]
-struct Ran {
-    answer: Answer,
-    row: Row,
-}
-
-fn run_row(
-    pos12: Pose,
-    g1: ShapeRecord,
-    g2: ShapeRecord,
-    dir: Vec3,
-    max_dist: f32,
-    exact: bool,
-    vertices: &mut [f32],
-    ids: &mut [usize],
-    floats: &mut [f32],
-    deleted: &mut [u8],
-    row: Row,
-    heap_ids: &mut [usize],
-    heap_keys: &mut [f32],
-    pending: &mut [usize],
-) -> Ran
-    requires { Whole row }
-    ensures { Ends (ran binary32 pos12 (shape_of g1) (shape_of g2) dir max_dist exact) result.answer
-        (λ m. row_lent m vertices ids floats deleted (either m row result.row) heap_ids heap_keys pending) × (result.row.n ≡ row.n) }
-{
-    let mut pairs = row.pairs;
-    let n = row.n;
-    let answer = run_numbers(
-        pos12,
-        g1,
-        g2,
-        dir,
-        max_dist,
-        exact,
-        vertices,
-        ids,
-        floats,
-        deleted,
-        &mut pairs[..n * 2],
-        heap_ids,
-        heap_keys,
-        pending,
-    );
-    Ran {
-        answer,
-        row: Row { pairs, n },
-    }
-}
-
-// The channel's answer for C. The records of edges go in as a row of numbers and are written back.
+// The channel's answer for C. A kind above 3 is answered as malformed, and the stores stay as they are. What stands one by one here does so in C.
 #[unsafe(no_mangle)]
 pub extern "C" fn separation_run(
     pos12: Pose,
@@ -123,13 +39,16 @@ pub extern "C" fn separation_run(
     ensures { Ends (on_first (ran binary32 pos12 (shape_of g1) (shape_of g2) dir max_dist exact)) result
         (λ m. records_lent m vertices ids floats deleted edges heap_ids heap_keys pending) }
 {
-    let row = edges::row_of(edges);
-    let ran = run_row(
-        pos12, g1, g2, dir, max_dist, exact, vertices, ids, floats, deleted, row, heap_ids,
-        heap_keys, pending,
-    );
-    edges::publish(edges, ran.row);
-    ran.answer
+    let Some(first) = shape_of(g1) else {
+        return malformed_answer();
+    };
+    let Some(second) = shape_of(g2) else {
+        return malformed_answer();
+    };
+    answer_of(channel_lent::separate(
+        pos12, first, second, dir, max_dist, exact, vertices, ids, floats, deleted, edges,
+        heap_ids, heap_keys, pending,
+    ))
 }
 
 // Two out of three.

@@ -17,7 +17,8 @@ use Rattle.epa_polytope.specs.declared.types.End.TheVariants.{Answers as answers
 use Rattle.epa_polytope.specs.declared.types.Finish.{Finish}
 use Rattle.epa_polytope.specs.declared.types.Store.{Store}
 use Rattle.epa_polytope.specs.declared.types.Tally.{Tally}
-use Rattle.epa.specs.declared.types.Counts.{Counts}
+use Rattle.epa_stores.specs.Lent.{LentAll, held}
+use Rattle.counts.specs.declared.Counts.{Counts}
 use Rattle.epa.specs.declared.types.Answer.{Answer}
 
 -- ---- an answer, and the content of every list
@@ -37,7 +38,7 @@ answered f x = final (f x.answer) x.lists
 
 -- the counts: expansions completed, faces made, faces live at the end, the most edges recorded in one pass, and the lookups that missed
 abbrev pub counts_at : List ℕ → Tally → Counts
-counts_at deleted c = record { expansions = c.done; faces_made = c.faces; faces_live = live_to c.faces deleted; most_edges = c.most; missed = c.missed }
+counts_at deleted c = record { expansions = c.done; made = c.faces; live = live_to c.faces deleted; edges = c.most; missed = c.missed }
 
 abbrev pub answer_at : List ℕ → Finish → Answer
 answer_at deleted x = record { end = x.end; counts = counts_at deleted x.tally }
@@ -96,3 +97,7 @@ four_lent m v i x d e hi hk = lists_of (when m v) (when m i) (when m x) (when m 
 -- what is answered and left is what d makes of the lists
 abbrev pub Ends : {A : Type 0} → (Lists → Final A) → A → (Moment → Lists) → Type 0
 Ends d r slices = final r (slices returned) ≡ d (slices called)
+
+-- the same of a function that is lent all stores in one value
+abbrev pub EndsAll : {A : Type 0} → (Lists → Final A) → A → LentAll → Type 0
+EndsAll d r s = final r (held s.exit.now) ≡ d (held s.entry.now)

@@ -8,75 +8,73 @@ ghost use Rattle.std.specs.Float.{binary32};
 ghost use Rattle.number.specs.Told.{Told};
 ghost use Rattle.epa_polytope.specs.Stores.{none_yet};
 ghost use Rattle.epa_polytope.specs.Run.{epa};
-ghost use Rattle.epa_polytope.specs.Promises.{Gives, finish_out, lent_all, single_by, walk_of, called};
+ghost use Rattle.epa_polytope.specs.Promises.{finish_out, walk_of, called};
 ghost use Rattle.epa_polytope.specs.declared.types.Walk.TheVariants.{Recursive as recursive, Plain as plain};
-ghost use Rattle.epa.specs.Final.{four_lent, all_lent, Ends, penetration, answer_at, counts_at, answer_number, answer_values};
+ghost use Rattle.epa_stores.specs.Lent.{GivesAll, Kept, held, pair_by};
+ghost use Rattle.epa.specs.Final.{four_lent, all_lent, Ends, EndsAll, penetration, answer_at, counts_at, answer_number, answer_values};
 
 mod expansions;
 mod types;
 
-use epa_polytope::{Begun, Finish, Tally};
+use counts::Counts;
+use epa_polytope::{Finish, Tally};
 use epa_start::begin;
-use epa_stores::live_to;
+use epa_stores::{Stores, live_to};
 use expansions::expansions;
-use shape::Shape;
+use shape::{Pair, Shape};
 use simplex::VoronoiSimplex;
-pub use types::{Answer, Counts};
+pub use types::Answer;
 use vector::Pose;
 
 // The start, and the expansions, over stores with no entries.
-fn run(
-    vertices: &mut [f32],
-    ids: &mut [usize],
-    floats: &mut [f32],
-    deleted: &mut [u8],
-    edges: &mut [usize],
-    heap_ids: &mut [usize],
-    heap_keys: &mut [f32],
-    pending: &mut [usize],
-    plain: bool,
-    pos12: Pose,
-    g1: Shape,
-    g2: Shape,
-    simplex: VoronoiSimplex,
-) -> Finish
-    ensures { Gives finish_out (epa (single_by (walk_of plain) pos12 g1 g2) simplex) none_yet result (λ m. lent_all m vertices ids floats deleted edges heap_ids heap_keys pending) }
+fn run<const PLAIN: bool>(stores: &mut Stores<'_>, pair: &Pair, simplex: VoronoiSimplex) -> Finish
+    ensures leaves { GivesAll finish_out (epa (pair_by (walk_of PLAIN) pair.now) simplex) none_yet result stores }
+    ensures kept { Kept stores }
 {
-    let begun = begin(
-        vertices, ids, floats, deleted, heap_ids, heap_keys, pos12, g1, g2, simplex,
-    );
-    match begun {
-        Begun::Ended(end, tally) => Finish { end, tally },
-        Begun::Ready(tol, tally) => expansions(
-            vertices, ids, floats, deleted, edges, heap_ids, heap_keys, pending, tally, plain,
-            pos12, g1, g2, tol,
-        ),
+    match begin(stores, pair, simplex) {
+        Err(finish) => finish,
+        Ok(begun) => expansions::<PLAIN>(stores, begun.tally, pair, begun.tol),
     }
 }
 
 // The counts of a run that has ended.
-fn counts_of(deleted: &[u8], tally: Tally) -> Counts
-    ensures { result ≡ counts_at deleted.now tally }
+fn counts_of(stores: &Stores<'_>, tally: Tally) -> Counts
+    ensures { result ≡ counts_at (held stores.now).deleted tally }
 {
     Counts {
         expansions: tally.done,
-        faces_made: tally.faces,
-        faces_live: live_to(deleted, tally.faces),
-        most_edges: tally.most,
+        made: tally.faces,
+        live: live_to(stores.deleted, tally.faces),
+        edges: tally.most,
         missed: tally.missed,
     }
 }
 
 // The answer with its counts.
-fn answer_at(deleted: &[u8], finish: Finish) -> Answer
-    ensures { result ≡ answer_at deleted.now finish }
+fn answer_at(stores: &Stores<'_>, finish: Finish) -> Answer
+    ensures { result ≡ answer_at (held stores.now).deleted finish }
 {
     let end = finish.end;
-    let counts = counts_of(deleted, finish.tally);
+    let counts = counts_of(stores, finish.tally);
     Answer { end, counts }
 }
 
-// `EPA::closest_points`, by the recursive walk, over four stores: no question is ever pending.
+// `EPA::closest_points`, by the recursive walk or by the plain one, over the stores in one value. The recursive walk asks no question.
+pub fn closest_points_by<const PLAIN: bool>(
+    stores: &mut Stores<'_>,
+    pair: &Pair,
+    simplex: VoronoiSimplex,
+) -> Answer
+    ensures answer { EndsAll (penetration (walk_of PLAIN) binary32 pair.now.pos12 pair.now.g1 pair.now.g2 simplex) result stores }
+    ensures told { Told answer_number answer_values result
+        (penetration (walk_of PLAIN) binary32 pair.now.pos12 pair.now.g1 pair.now.g2 simplex (held stores.old)).answer }
+    ensures kept { Kept stores }
+{
+    let finish = run::<PLAIN>(stores, pair, simplex);
+    answer_at(stores, finish)
+}
+
+// The same by the recursive walk, over four stores that are lent one by one: no question is ever pending.
 pub fn closest_points(
     pos12: Pose,
     g1: Shape,
@@ -94,15 +92,21 @@ pub fn closest_points(
     ensures told { Told answer_number answer_values result
         (penetration recursive binary32 pos12 g1 g2 simplex (four_lent called vertices ids floats deleted edges heap_ids heap_keys)).answer }
 {
-    let mut none = [0usize; 0];
-    let finish = run(
-        vertices, ids, floats, deleted, edges, heap_ids, heap_keys, &mut none, false, pos12, g1,
-        g2, simplex,
-    );
-    answer_at(deleted, finish)
+    let pair = Pair { pos12, g1, g2 };
+    let mut stores = Stores {
+        vertices,
+        ids,
+        floats,
+        deleted,
+        edges,
+        heap_ids,
+        heap_keys,
+        pending: &mut [],
+    };
+    closest_points_by::<false>(&mut stores, &pair, simplex)
 }
 
-// The same by the plain walk, over five stores.
+// And by the plain walk, over five.
 pub fn closest_points_plain(
     pos12: Pose,
     g1: Shape,
@@ -121,9 +125,16 @@ pub fn closest_points_plain(
     ensures told { Told answer_number answer_values result
         (penetration plain binary32 pos12 g1 g2 simplex (all_lent called vertices ids floats deleted edges heap_ids heap_keys pending)).answer }
 {
-    let finish = run(
-        vertices, ids, floats, deleted, edges, heap_ids, heap_keys, pending, true, pos12, g1, g2,
-        simplex,
-    );
-    answer_at(deleted, finish)
+    let pair = Pair { pos12, g1, g2 };
+    let mut stores = Stores {
+        vertices,
+        ids,
+        floats,
+        deleted,
+        edges,
+        heap_ids,
+        heap_keys,
+        pending,
+    };
+    closest_points_by::<true>(&mut stores, &pair, simplex)
 }

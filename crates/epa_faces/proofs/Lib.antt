@@ -1,2 +1,3 @@
 -- Facts on plain values.
 pub mod Regions
+mod Lookups

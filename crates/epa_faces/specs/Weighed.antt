@@ -5,8 +5,7 @@ use Rattle.std.specs.Float.{Format}
 use Rattle.number.specs.Constants.{polytope_tol}
 use Rattle.vector.specs.declared.vec3.Vec3.{Vec3}
 use Rattle.vector.specs.Vector.{vec3}
-use Rattle.projection.specs.declared.triangle.TriangleProjection.{TriangleProjection}
-use Rattle.projection.specs.Triangle.{barycentric_coordinates}
+use Rattle.projection.specs.Triangle.{TriangleProjection, barycentric_coordinates}
 use Rattle.projection.specs.Inside.{within_origin}
 use Rattle.epa_polytope.specs.Face.{weights_or, holds_at}
 use Rattle.epa_faces.specs.declared.face.Weighed.{Weighed}

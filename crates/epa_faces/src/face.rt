@@ -24,8 +24,8 @@ struct Weighed {
 pub fn face_new(a: Vec3, b: Vec3, c: Vec3) -> Made
     ensures { result ≡ face_new binary32 a b c }
 {
-    let ab = b.sub(a);
-    let ac = c.sub(a);
+    let ab = b - a;
+    let ac = c - a;
     let n = ab.cross(ac);
     let weighed = weigh(a, b, c, ab, ac, n);
     let weights = weighed.weights;
@@ -43,19 +43,19 @@ fn weigh(a: Vec3, b: Vec3, c: Vec3, ab: Vec3, ac: Vec3, n: Vec3) -> Weighed
     requires { (ab ≡ sub_v binary32 b a) × (ac ≡ sub_v binary32 c a) × (n ≡ cross_v binary32 ab ac) }
     ensures { result ≡ weighed binary32 (project_triangle binary32 (record { a = a; b = b; c = c }) zero_v) }
 {
-    let ap = Vec3::ZERO.sub(a);
+    let ap = Vec3::ZERO - a;
     let ab_ap = ab.dot(ap);
     let ac_ap = ac.dot(ap);
     if (ab_ap <= 0.0) & (ac_ap <= 0.0) {
         return on_border(1.0, 0.0, 0.0, a);
     }
-    let bp = Vec3::ZERO.sub(b);
+    let bp = Vec3::ZERO - b;
     let ab_bp = ab.dot(bp);
     let ac_bp = ac.dot(bp);
     if (ab_bp >= 0.0) & (ac_bp <= ab_bp) {
         return on_border(0.0, 1.0, 0.0, b);
     }
-    let cp = Vec3::ZERO.sub(c);
+    let cp = Vec3::ZERO - c;
     let ab_cp = ab.dot(cp);
     let ac_cp = ac.dot(cp);
     if (ac_cp >= 0.0) & (ab_cp <= ac_cp) {
@@ -64,23 +64,24 @@ fn weigh(a: Vec3, b: Vec3, c: Vec3, ab: Vec3, ac: Vec3, n: Vec3) -> Weighed
     let vc = n.dot(ab.cross(ap));
     if (vc < 0.0) & (ab_ap >= 0.0) & (ab_bp <= 0.0) {
         let v = ab_ap / ab.length_squared();
-        return on_border(1.0 - v, v, 0.0, a.add(ab.scale(v)));
+        return on_border(1.0 - v, v, 0.0, a + ab * v);
     }
     let vb = -n.dot(ac.cross(cp));
     if (vb < 0.0) & (ac_ap >= 0.0) & (ac_cp <= 0.0) {
         let v = ac_ap / ac.length_squared();
-        return on_border(1.0 - v, 0.0, v, a.add(ac.scale(v)));
+        return on_border(1.0 - v, 0.0, v, a + ac * v);
     }
-    let bc = c.sub(b);
+    let bc = c - b;
     let va = n.dot(bc.cross(bp));
     if (va < 0.0) & (ac_bp - ab_bp >= 0.0) & (ab_cp - ac_cp >= 0.0) {
         let v = bc.dot(bp) / bc.length_squared();
-        return on_border(0.0, 1.0 - v, v, b.add(bc.scale(v)));
+        return on_border(0.0, 1.0 - v, v, b + bc * v);
     }
     on_face(va, vb, vc)
 }
 
 // At a corner or on an edge, which the face holds if it lies at the origin.
+#[tactic(auto, unfolding(crate::specs::Weighed::on_border))]
 fn on_border(u: f32, v: f32, w: f32, point: Vec3) -> Weighed
     ensures { result ≡ on_border binary32 u v w point }
 {

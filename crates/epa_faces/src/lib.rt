@@ -7,100 +7,81 @@ ghost use Rattle.std.specs.Float.{binary32};
 ghost use Rattle.epa_polytope.specs.Face.{face_new};
 ghost use Rattle.epa_polytope.specs.Promises.{Reads};
 ghost use Rattle.epa_polytope.specs.Stores.{vertex_at, with_vertices, with_face_ids, with_face_floats};
-ghost use Rattle.epa_polytope.specs.Silhouette.{next_ccw_pt_id, corner_or0, misses, facing_from};
+ghost use Rattle.epa_polytope.specs.Silhouette.{next_ccw_pt_id, facing_from};
 ghost use Rattle.epa_polytope.specs.Steps.{weighted, answer_of};
 ghost use Rattle.epa_polytope.specs.Expansion.{can_be_seen_by};
+ghost use Rattle.epa_stores.specs.Lent.{held};
 
 mod face;
 
-use epa_polytope::{End, Facing, Found, Lookup, Made, Question};
-use epa_stores::{corner_at, neighbour_at, normal_of, vertex_at, weights_of};
+use epa_polytope::{End, Facing, Found, Made, Question};
+use epa_stores::{Stores, corner_at, neighbour_at, normal_of, vertex_at};
 use face::face_new;
 use projection::Triangle;
 use vector::Vec3;
 
 // `Face::new` of three vertices.
-pub fn made_of(vertices: &[f32], a: usize, b: usize, c: usize) -> Made
-    ensures { result ≡ face_new binary32 (vertex_at vertices.now a).point (vertex_at vertices.now b).point
-        (vertex_at vertices.now c).point }
+pub fn made_of(stores: &Stores<'_>, a: usize, b: usize, c: usize) -> Made
+    ensures { result ≡ face_new binary32 (vertex_at (held stores.now).vertices a).point (vertex_at (held stores.now).vertices b).point
+        (vertex_at (held stores.now).vertices c).point }
 {
-    let p0 = vertex_at(vertices, a).point;
-    let p1 = vertex_at(vertices, b).point;
-    let p2 = vertex_at(vertices, c).point;
+    let p0 = stores.vertex_at(a).point;
+    let p1 = stores.vertex_at(b).point;
+    let p2 = stores.vertex_at(c).point;
     face_new(p0, p1, p2)
 }
 
 // The sum of three points by their weights.
+#[tactic(auto, unfolding(epa_polytope::specs::Steps::weighted))]
 fn weighted_sum(u: Vec3, a: Vec3, b: Vec3, c: Vec3) -> Vec3
     ensures { result ≡ weighted binary32 u a b c }
 {
-    let ab = a.scale(u.x).add(b.scale(u.y));
-    ab.add(c.scale(u.z))
+    a * u.x + b * u.y + c * u.z
 }
 
 // `Face::closest_points` of the face i, with its normal.
-pub fn answer_of(why: Found, vertices: &[f32], ids: &[usize], floats: &[f32], i: usize) -> End
-    ensures { Reads (λ l. answer_of binary32 why l i) result
-        (λ k. with_vertices vertices.now (with_face_ids ids.now (with_face_floats floats.now k))) }
+#[tactic(auto, unfolding(epa_polytope::specs::Steps::answer_of))]
+pub fn answer_of(why: Found, stores: &Stores<'_>, i: usize) -> End
+    ensures { result ≡ answer_of binary32 why (held stores.now) i }
 {
-    let a = vertex_at(vertices, corner_at(ids, i, 0));
-    let b = vertex_at(vertices, corner_at(ids, i, 1));
-    let c = vertex_at(vertices, corner_at(ids, i, 2));
-    let u = weights_of(floats, i);
+    let a = stores.vertex_at(stores.corner_at(i, 0));
+    let b = stores.vertex_at(stores.corner_at(i, 1));
+    let c = stores.vertex_at(stores.corner_at(i, 2));
+    let u = stores.weights_of(i);
     let point1 = weighted_sum(u, a.orig1, b.orig1, c.orig1);
     let point2 = weighted_sum(u, a.orig2, b.orig2, c.orig2);
-    End::Answers(why, point1, point2, normal_of(floats, i))
+    End::Answers(why, point1, point2, stores.normal_of(i))
 }
 
 // `next_ccw_pt_id`: the corner after that of the face which is the vertex `id`, if one is.
-pub fn next_ccw_pt_id(ids: &[usize], face: usize, id: usize) -> Lookup
+#[tactic(auto, unfolding(epa_polytope::specs::Silhouette::next_ccw_pt_id))]
+pub fn next_ccw_pt_id(ids: &[usize], face: usize, id: usize) -> Option<usize>
     ensures { result ≡ next_ccw_pt_id ids.now face id }
 {
     if corner_at(ids, face, 0) == id {
-        return Lookup::FoundAt(1);
+        return Some(1);
     }
     if corner_at(ids, face, 1) == id {
-        return Lookup::FoundAt(2);
+        return Some(2);
     }
     if corner_at(ids, face, 2) == id {
-        return Lookup::FoundAt(0);
+        return Some(0);
     }
-    Lookup::Missing
+    None
 }
 
-// The corner that a run goes on with.
-fn corner_or_0(found: Lookup) -> usize
-    ensures { result ≡ corner_or0 found }
-{
-    match found {
-        Lookup::FoundAt(corner) => corner,
-        Lookup::Missing => 0,
-    }
-}
-
-// 1 for a lookup that missed.
-fn misses(found: Lookup) -> usize
-    ensures { result ≡ misses found }
-{
-    match found {
-        Lookup::FoundAt(_) => 0,
-        Lookup::Missing => 1,
-    }
-}
-
-// The question to the neighbour k of the face, and the lookups that have missed with its own.
+// The question to the neighbour k of the face, at corner 0 where the lookup misses, and the lookups that have missed with its own.
 pub fn facing_at(ids: &[usize], face: usize, k: usize, missed: usize) -> Facing
     ensures { result ≡ facing_from ids.now face k missed }
 {
     let next = neighbour_at(ids, face, k);
     let found = next_ccw_pt_id(ids, next, corner_at(ids, face, k));
-    let question = Question {
-        face: next,
-        corner: corner_or_0(found),
-    };
     Facing {
-        question,
-        missed: std::num::wrapping_add_usize(missed, misses(found)),
+        question: Question {
+            face: next,
+            corner: found.unwrap_or(0),
+        },
+        missed: missed.wrapping_add(usize::from(found.is_none())),
     }
 }
 
@@ -120,7 +101,7 @@ pub fn can_be_seen_by(
     let corner = question.corner;
     let pt = vertex_at(vertices, point).point;
     let p0 = vertex_at(vertices, corner_at(ids, face, corner)).point;
-    let away = pt.sub(p0).dot(normal_of(floats, face));
+    let away = (pt - p0).dot(normal_of(floats, face));
     // the Rust's `||`: the other corners are read only where this test fails
     if away >= -number::eps_tol() {
         return true;

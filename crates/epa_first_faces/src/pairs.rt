@@ -1,17 +1,14 @@
-// Faces pushed two at a time (`self.faces.push` of epa3.rs, in "Initialization"): either start makes an even number of them, and the
-// time of a function's check grows with the square of the calls to which it lends the lists.
-ghost use Rattle.epa_polytope.specs.Stores.{with_face_ids, with_face_floats, with_deleted};
-ghost use Rattle.epa_polytope.specs.Promises.{Leaves, when};
+// Faces pushed two at a time (`self.faces.push` of epa3.rs, in "Initialization"): either start makes an even number of them.
 ghost use Rattle.epa_polytope.specs.Code.{push_two};
+ghost use Rattle.epa_stores.specs.Lent.{LeavesAll, Kept};
 
-use epa_polytope::{Made, Step, Tally, Three};
+use epa_polytope::{Finish, Made, Tally, Three};
 use epa_pushes::push_face;
+use epa_stores::Stores;
 
 // Two faces are pushed, one after the other; the second is left out where the first ends the run.
 pub fn push_two(
-    ids: &mut [usize],
-    floats: &mut [f32],
-    deleted: &mut [u8],
+    stores: &mut Stores<'_>,
     tally: Tally,
     pts1: Three,
     adj1: Three,
@@ -19,13 +16,10 @@ pub fn push_two(
     pts2: Three,
     adj2: Three,
     m2: Made,
-) -> Step
-    ensures { Leaves (push_two pts1 adj1 m1 pts2 adj2 m2) tally result
-        (λ m k. with_face_ids (when m ids) (with_face_floats (when m floats) (with_deleted (when m deleted) k))) }
+) -> Result<Tally, Finish>
+    ensures leaves { LeavesAll (push_two pts1 adj1 m1 pts2 adj2 m2) tally result stores }
+    ensures kept { Kept stores }
 {
-    let s1 = push_face(ids, floats, deleted, tally, pts1, adj1, m1);
-    let Step::Onward(tally1) = s1 else {
-        return s1;
-    };
-    push_face(ids, floats, deleted, tally1, pts2, adj2, m2)
+    let next = push_face(stores, tally, pts1, adj1, m1)?;
+    push_face(stores, next, pts2, adj2, m2)
 }

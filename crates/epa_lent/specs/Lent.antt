@@ -2,10 +2,9 @@
 -- The store is seen as the list of its records' numbers. The run goes on the numbers of its first 206 records: a pass records at most 206 edges (document 01's demand 3).
 use Rattle.std.specs.Prelude.{List, ◌++◌, ℕ, take, drop, Float}
 use Rattle.edges.specs.declared.Edge.{Edge}
-use Rattle.edges.specs.declared.Row.{Row}
-use Rattle.edges.specs.Edges.{pairs_of, numbers_of}
+use Rattle.edges.specs.Edges.{pairs_of}
 use Rattle.epa_polytope.specs.Stores.{Lists, with_edges}
-use Rattle.epa_polytope.specs.Promises.{Lent, Moment, called, returned, when}
+use Rattle.epa_polytope.specs.Promises.{Lent, Moment, when}
 use Rattle.epa.specs.Final.{Final, final, lists_of}
 
 -- ---- the lists
@@ -13,15 +12,6 @@ use Rattle.epa.specs.Final.{Final, final, lists_of}
 -- as they are lent at a moment: seven, and the records' numbers
 abbrev pub records_lent : Moment → Lent Float → Lent ℕ → Lent Float → Lent ℕ → Lent Edge → Lent ℕ → Lent Float → Lent ℕ → Lists
 records_lent m v i x d es hi hk p = lists_of (when m v) (when m i) (when m x) (when m d) (pairs_of (when m es)) (when m hi) (when m hk) (when m p)
-
--- one value when a function is called, another when it returns: of a row, which goes in and comes back by value
-abbrev pub either : {X : Type 0} → Moment → X → X → X
-either called x y = x
-either returned x y = y
-
--- seven lists, and the numbers of a row
-abbrev pub row_lent : Moment → Lent Float → Lent ℕ → Lent Float → Lent ℕ → Row → Lent ℕ → Lent Float → Lent ℕ → Lists
-row_lent m v i x d r hi hk p = lists_of (when m v) (when m i) (when m x) (when m d) (numbers_of r) (when m hi) (when m hk) (when m p)
 
 -- ---- the run
 

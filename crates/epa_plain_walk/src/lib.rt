@@ -3,17 +3,17 @@
 // face are put in, the second first. How many faces are live falls with each that is seen.
 #![tactic(auto)]
 
-ghost use Rattle.std.specs.Prelude.{◌<◌, ◌≡◌, false};
+ghost use Rattle.std.specs.Prelude.{◌<◌, ◌≡◌, false, Ok};
 ghost use Rattle.epa_polytope.specs.Stores.{with_vertices, with_face_ids, with_face_floats};
 ghost use Rattle.epa_polytope.specs.Silhouette.{walked};
-ghost use Rattle.epa_polytope.specs.PlainWalk.{walking, walking_by, put_in, question_at, without, answer_question, turn, plain_walk, plain_pass};
+ghost use Rattle.epa_polytope.specs.PlainWalk.{walking, walking_by, put_in, answer_question, turn, plain_walk, plain_pass};
 ghost use Rattle.epa_polytope.specs.Expansion.{mesh_of, pass_by};
 ghost use Rattle.epa_polytope.specs.Promises.{Reads, single, walk_of};
 
 use epa_faces::{can_be_seen_by, facing_at};
-use epa_polytope::{PlainSoFar, Question, WalkAnswer};
+use epa_polytope::{PlainSoFar, Question};
 use epa_silhouette::{note, pass};
-use epa_stores::{deleted_at, pair_at, set_deleted, set_pair_at};
+use epa_stores::{deleted_at, put_question, question_at, set_deleted};
 
 // ---- a question goes in
 
@@ -31,35 +31,20 @@ fn put_in(
     if sofar.short {
         return sofar;
     }
-    let mut next = sofar;
     if sofar.held < pending.len() / 2 {
-        set_pair_at(pending, sofar.held, 0, q.face);
-        set_pair_at(pending, sofar.held, 1, q.corner);
-        next.held = sofar.held + 1;
-    } else {
-        next.short = true;
+        put_question(pending, sofar.held, q);
+        return PlainSoFar {
+            held: sofar.held + 1,
+            ..sofar
+        };
     }
-    next
+    PlainSoFar {
+        short: true,
+        ..sofar
+    }
 }
 
 // ---- the last question comes out, and is answered
-
-fn question_at(pending: &[usize], h: usize) -> Question
-    ensures { result ≡ question_at pending.now h }
-{
-    Question {
-        face: pair_at(pending, h, 0),
-        corner: pair_at(pending, h, 1),
-    }
-}
-
-// A place that is given back is zero.
-fn clear_at(pending: &mut [usize], h: usize)
-    ensures { pending.new ≡ without pending.old h }
-{
-    set_pair_at(pending, h, 0, 0);
-    set_pair_at(pending, h, 1, 0);
-}
 
 // A deleted face does nothing; a live face that is not seen is an edge; of one that is seen the neighbours are looked up,
 // and their questions go in.
@@ -86,18 +71,18 @@ fn answer_question(
         set_deleted(deleted, q.face, 1);
         let first = facing_at(ids, q.face, (q.corner % 3 + 2) % 3, sofar.missed);
         let second = facing_at(ids, q.face, q.corner, first.missed);
-        let mut next = sofar;
-        next.missed = second.missed;
+        let next = PlainSoFar {
+            missed: second.missed,
+            ..sofar
+        };
         let one = put_in(deleted, edges, pending, next, second.question);
         return put_in(deleted, edges, pending, one, first.question);
     }
     let noted = note(deleted, edges, count, sofar.missed, q);
-    let answer = noted.answer;
     PlainSoFar {
-        answer,
+        answer: noted.answer,
         missed: noted.missed,
-        held: sofar.held,
-        short: sofar.short,
+        ..sofar
     }
 }
 
@@ -118,15 +103,16 @@ fn take_turn(
 ) -> PlainSoFar
     requires { 0 < held }
     ensures { Reads (λ l. turn (mesh_of single l point)
-        (walking (walked deleted.old edges.old missed (WalkAnswer.Done count)) pending.old held false))
+        (walking (walked deleted.old edges.old missed (Ok count)) pending.old held false))
         (walking_by deleted.new edges.new pending.new result)
         (λ k. with_vertices vertices.now (with_face_ids ids.now (with_face_floats floats.now k))) }
 {
     let last = held - 1;
     let q = question_at(pending, last);
-    clear_at(pending, last);
+    // A place that is given back is zero.
+    put_question(pending, last, Question { face: 0, corner: 0 });
     let taken = PlainSoFar {
-        answer: WalkAnswer::Done(count),
+        answer: Ok(count),
         missed,
         held: last,
         short: false,
@@ -153,8 +139,7 @@ pub fn plain_walk(
         (walking_by deleted.new edges.new pending.new result)
         (λ k. with_vertices vertices.now (with_face_ids ids.now (with_face_floats floats.now k))) }
 {
-    let answer = start.answer;
-    let WalkAnswer::Done(first) = answer else {
+    let Ok(first) = start.answer else {
         return start;
     };
     if start.short {
@@ -167,8 +152,7 @@ pub fn plain_walk(
         let turned = take_turn(
             vertices, ids, floats, deleted, edges, pending, point, count, missed, held,
         );
-        let answered = turned.answer;
-        let WalkAnswer::Done(n) = answered else {
+        let Ok(n) = turned.answer else {
             return turned;
         };
         if turned.short {
@@ -179,7 +163,7 @@ pub fn plain_walk(
         held = turned.held;
     }
     PlainSoFar {
-        answer: WalkAnswer::Done(count),
+        answer: Ok(count),
         missed,
         held,
         short: false,
@@ -201,12 +185,12 @@ pub fn plain_pass(
     c: Question,
 ) -> PlainSoFar
     ensures { Reads (λ l. plain_pass (mesh_of single l point)
-        (walking (walked deleted.old edges.old missed (WalkAnswer.Done 0)) pending.old 0 false) a b c)
+        (walking (walked deleted.old edges.old missed (Ok 0)) pending.old 0 false) a b c)
         (walking_by deleted.new edges.new pending.new result)
         (λ k. with_vertices vertices.now (with_face_ids ids.now (with_face_floats floats.now k))) }
 {
     let start = PlainSoFar {
-        answer: WalkAnswer::Done(0),
+        answer: Ok(0),
         missed,
         held: 0,
         short: false,
@@ -219,28 +203,27 @@ pub fn plain_pass(
 
 // ---- by either walk
 
-// The recursive walk holds no question. Which walk is a `bool` and not an enum, since LLVM sees the value of a `bool`
-// through the calls: a program has only the walk that it asks for.
-pub fn pass_by(
+// The recursive walk holds no question. Which walk is a const parameter, which has to be a `bool` where the definitions have an enum: a
+// program has only the walk that it asks for.
+pub fn pass_by<const PLAIN: bool>(
     vertices: &[f32],
     ids: &[usize],
     floats: &[f32],
     deleted: &mut [u8],
     edges: &mut [usize],
     pending: &mut [usize],
-    plain: bool,
     point: usize,
     missed: usize,
     a: Question,
     b: Question,
     c: Question,
 ) -> PlainSoFar
-    ensures { Reads (λ l. pass_by (walk_of plain) (mesh_of single l point)
-        (walking (walked deleted.old edges.old missed (WalkAnswer.Done 0)) pending.old 0 false) a b c)
+    ensures { Reads (λ l. pass_by (walk_of PLAIN) (mesh_of single l point)
+        (walking (walked deleted.old edges.old missed (Ok 0)) pending.old 0 false) a b c)
         (walking_by deleted.new edges.new pending.new result)
         (λ k. with_vertices vertices.now (with_face_ids ids.now (with_face_floats floats.now k))) }
 {
-    if plain {
+    if PLAIN {
         return plain_pass(
             vertices, ids, floats, deleted, edges, pending, point, missed, a, b, c,
         );
@@ -248,9 +231,8 @@ pub fn pass_by(
     let walked = pass(
         vertices, ids, floats, deleted, edges, point, missed, a, b, c,
     );
-    let answer = walked.answer;
     PlainSoFar {
-        answer,
+        answer: walked.answer,
         missed: walked.missed,
         held: 0,
         short: false,

@@ -10,7 +10,8 @@ use lib.Seq.{get_or-set_same, get_or-set_other, sets}
 use lib.Dec.{ltb}
 use lib.Ieee.{Float, nan, lt}
 use borrow.Author.Tests.{ltb-true}
-use Rattle.heap.specs.Heap.{Heap, Entry, heap, entry_at, put, swap, less, rise_in, rise, Placed, placed, greater, sink_in, sink, pushed, cleared, settled, popped}
+use Rattle.heap.specs.declared.Entry.{Entry}
+use Rattle.heap.specs.Heap.{Heap, heap, entry_at, put, swap, less, rise_in, rise, Placed, placed, greater, sink_in, sink, pushed, cleared, settled, popped}
 use Rattle.epa_polytope.specs.Same.{Alike}
 
 -- ---- lists

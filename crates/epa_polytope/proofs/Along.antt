@@ -8,7 +8,7 @@ use lib.ListN.{length, get_or, set, length-set}
 use lib.Dec.{eqb, ltb}
 use borrow.Author.Tests.{ltb-true, ltb-false}
 use Rattle.epa_polytope.specs.Stores.{corner_in, neighbour_in}
-use Rattle.epa_polytope.specs.Silhouette.{Mesh, Walked, WalkAnswer, Done, NoRoom, Question, zeros, next_ccw_pt_id, lookup, facing, with_missed, entered, pair_put, noted_if, noted, ask_if, ask, walk_in, walk, pass}
+use Rattle.epa_polytope.specs.Silhouette.{Mesh, Walked, WalkAnswer, Ok, Err, full, Question, zeros, next_ccw_pt_id, lookup, facing, with_missed, entered, pair_put, noted_if, noted, ask_if, ask, walk_in, walk, pass}
 use Rattle.epa_polytope.specs.Bounds.{NeighboursIn}
 use Rattle.epa_polytope.specs.Same.{Alike}
 use Rattle.epa_polytope.proofs.Walks.{enough, Asked, asked-facing}
@@ -16,8 +16,8 @@ use Rattle.epa_polytope.proofs.Alike.{alike-push, alike_set}
 
 -- two walks among N faces, with room for R and for R' edges: n edges are recorded in both, and alike
 pub record Together (N R R' n : ℕ) (s t : Walked) : Type 0 where
-  pub answer : s.answer ≡ Done n
-  pub answer' : t.answer ≡ Done n
+  pub answer : s.answer ≡ Ok n
+  pub answer' : t.answer ≡ Ok n
   pub few : n ≤ R
   pub few' : n ≤ R'
   pub missed : s.missed ≡ t.missed
@@ -28,28 +28,28 @@ pub record Together (N R R' n : ℕ) (s t : Walked) : Type 0 where
 
 -- both have found no room, at the same edge
 pub record FullTogether (N R R' : ℕ) (s t : Walked) : Type 0 where
-  pub answer : s.answer ≡ NoRoom
-  pub answer' : t.answer ≡ NoRoom
+  pub answer : s.answer ≡ full
+  pub answer' : t.answer ≡ full
   pub rooms : R ≡ R'
   pub missed : s.missed ≡ t.missed
   pub deleted : Alike N s.deleted t.deleted
   pub edges : Alike (R * 2) s.edges t.edges
 
 pub data Along (N R R' : ℕ) (s t : Walked) : Type 0 where
-  first_full : s.answer ≡ NoRoom → R < R' → Along N R R' s t
-  second_full : t.answer ≡ NoRoom → R' < R → Along N R R' s t
+  first_full : s.answer ≡ full → R < R' → Along N R R' s t
+  second_full : t.answer ≡ full → R' < R → Along N R R' s t
   both_full : FullTogether N R R' s t → Along N R R' s t
   both : (n : ℕ) → Together N R R' n s t → Along N R R' s t
 
 -- a walk that has found no room does nothing more
-full-stays : (n : ℕ) (m : Mesh) (s : Walked) (q : Question) → s.answer ≡ NoRoom → walk_in n m s q ≡ s
+full-stays : (n : ℕ) (m : Mesh) (s : Walked) (q : Question) → s.answer ≡ full → walk_in n m s q ≡ s
 unfolding walk_in ask
 full-stays zero m s q e = refl
 full-stays (suc n) m s q e = by s.answer (eqb (get_or s.deleted q.face 1) 0) (m.seen q) e
   where
-    by : (a : WalkAnswer) (d v : Bool) → a ≡ NoRoom → ask_if a d v m (walk_in n m) s q ≡ s
-    by NoRoom d v x = refl
-    by (Done k) d v x = let z : ◌≡◌ {A = ℕ} 0 1 = cc in let y : ⊥ = omega arith in absurd y
+    by : (a : WalkAnswer) (d v : Bool) → a ≡ full → ask_if a d v m (walk_in n m) s q ≡ s
+    by (Err _) d v x = refl
+    by (Ok k) d v x = let z : ◌≡◌ {A = ℕ} 0 1 = cc in let y : ⊥ = omega arith in absurd y
 
 -- an edge more, in both
 pub alike-edge : (n : ℕ) (l k : List ℕ) (q : Question) → n < length l / 2 → n < length k / 2 → Alike (n * 2) l k → Alike ((n + 1) * 2) (pair_put l n q) (pair_put k n q)
@@ -148,7 +148,7 @@ module _ (N R R' : ℕ) (m m' : Mesh) (h : NeighboursIn N N m.ids) (ids : Alike 
       given s.answer t.answer (eqb (get_or s.deleted q.face 1) 0) (eqb (get_or t.deleted q.face 1) 0) (m.seen q) (m'.seen q) g.answer g.answer'
       (ap (λ (x : ℕ). eqb x 0) e1) (seen q y)
     where
-      by : (d v : Bool) → Pair (ask_if (Done k) d v m go s q) (ask_if (Done k) d v m' go' t q)
+      by : (d v : Bool) → Pair (ask_if (Ok k) d v m go s q) (ask_if (Ok k) d v m' go' t q)
       by false v = both k g
       by true false = along-noted k s t q g
       by true true =
@@ -159,7 +159,7 @@ module _ (N R R' : ℕ) (m m' : Mesh) (h : NeighboursIn N N m.ids) (ids : Alike 
           let y2 = asked-facing m.ids N h q.face q.corner y.face_in y.corner_in in
           rw (← e1, ← e2) (law _ _ _ y2 (law _ _ _ y1 (both k (along-entered k s t q y g))))
 
-      given : (a b : WalkAnswer) (d e v x : Bool) → a ≡ Done k → b ≡ Done k → d ≡ e → v ≡ x → Pair (ask_if a d v m go s q) (ask_if b e x m' go' t q)
+      given : (a b : WalkAnswer) (d e v x : Bool) → a ≡ Ok k → b ≡ Ok k → d ≡ e → v ≡ x → Pair (ask_if a d v m go s q) (ask_if b e x m' go' t q)
       given a b d e v x ea eb ed ev = rw (ea, eb, ed, ev) (by e x)
 
   along-walk_in : (n : ℕ) (s t : Walked) (q : Question) → Asked N q → Pair s t → Pair (walk_in n m s q) (walk_in n m' t q)

@@ -3,10 +3,9 @@ use mathlib.Core.Path.{◌≡◌, refl, ap, ◌∙◌}
 use lib.Ieee.{Float}
 use Rattle.simplex.specs.declared.voronoi_simplex.VoronoiSimplex.{VoronoiSimplex}
 use Rattle.epa_polytope.specs.declared.types.Tally.{Tally}
-use Rattle.epa_polytope.specs.declared.types.End.{End}
-use Rattle.epa_polytope.specs.declared.types.Step.{Step}
-use Rattle.epa_polytope.specs.declared.types.Step.TheVariants.{Onward, Ended}
-use Rattle.epa_polytope.specs.declared.types.Begun.{Begun}
+use Rattle.epa_polytope.specs.declared.types.Finish.{Finish}
+use Rattle.epa_polytope.specs.Promises.{Step}
+use Rattle.std.specs.Prelude.{Ok, Err}
 use Rattle.epa_polytope.specs.Stores.{Lists, none_yet, state_of}
 use Rattle.epa_polytope.specs.Steps.{Out, onward, ended, next, Act, Nil, pure, ◌>>◌}
 use Rattle.epa_polytope.specs.Start.{World, format_of, dist_tol, start_faces, begin}
@@ -29,16 +28,16 @@ unfolding ◌>>◌ pure
 handed-on a tol {l2 = l2} r h = record { same = by r ∙ ap (λ (o : Out Nil). next o (λ _. pure tol)) h.same }
   where
     by : (y : Step) → begin_out l2 (ready_of y tol) ≡ next (step_out l2 y) (λ _. pure tol)
-    by (Onward x) = refl
-    by (Ended e x) = refl
+    by (Ok x) = refl
+    by (Err x) = refl
 
 -- from no entries the vertices are pushed, or the run ends at them, with the answer r
-module _ (w : World) (x : VoronoiSimplex) {l l1 : Lists} {c : Tally} {r : Step} (none : c ≡ none_yet) (g : Does step_out (simplex_vertices w x) l c l1 r) {y : Tally} where
-  pub not-begun : {e : End} → r ≡ Ended e y → Does begin_out (begin w x) l none_yet l1 (Begun.Ended e y)
+module _ (w : World) (x : VoronoiSimplex) {l l1 : Lists} {c : Tally} {r : Step} (none : c ≡ none_yet) (g : Does step_out (simplex_vertices w x) l c l1 r) where
+  pub not-begun : {e : Finish} → r ≡ Err e → Does begin_out (begin w x) l none_yet l1 (Err e)
   unfolding begin
   not-begun t = rw (← none) (regrouped _ _ _ (ends-here _ g _ refl t))
 
-  pub begun : r ≡ Onward y → {tol : Float} → tol ≡ dist_tol (format_of w) l1.vertices y.vertices → {l2 : Lists} {r2 : Step} → Does step_out (start_faces w x.dim tol) l1 y l2 r2
-      → {b : Begun} → b ≡ ready_of r2 tol → Does begin_out (begin w x) l none_yet l2 b
+  pub begun : {y : Tally} → r ≡ Ok y → {tol : Float} → tol ≡ dist_tol (format_of w) l1.vertices y.vertices → {l2 : Lists} {r2 z : Step} → Does step_out (start_faces w x.dim tol) l1 y l2 r2
+      → r2 ≡ z → Does begin_out (begin w x) l none_yet l2 (ready_of z tol)
   unfolding begin
-  begun t is_tol f is_b = rw (← none) (regrouped _ _ _ (goes_on _ g t (looked _ (rw (is_b, ← is_tol) (handed-on _ _ _ f)))))
+  begun t is_tol f is_z = rw (← none) (regrouped _ _ _ (goes_on _ g t (looked _ (rw (← is_tol) (handed-on _ _ _ (rw is_z at f))))))

@@ -1,7 +1,7 @@
 -- Where a run is within the sizes of demand 3: between its expansions, around a pass and between two pushes of an expansion under way, and at its end; and the expansions that it counts are those it completes.
 -- The statements, one beside the other, stand in Demand3.antt. Assumes nothing.
 use mathlib.Core.Path.{◌≡◌, refl, sym, ap, subst, ◌∙◌}
-use mathlib.Core.Option.{some}
+use Rattle.std.specs.Prelude.{Some}
 use Prim.Native.Nat.{ℕ, zero, suc, ◌+◌, ◌-◌, ◌*◌, ◌<◌, ◌≤◌}
 use native.Mathlib.Nat.{mul-le-mul}
 use native.Mathlib.Numerals.{add-one}
@@ -25,16 +25,16 @@ use Rattle.epa_polytope.proofs.Counted.{done-moves, done-iterate}
 -- ---- after k expansions
 
 -- what every outcome of a step has is had of the stores that it leaves, if it goes on
-of-stores : {A : Type 0} (P : State → Type 0) {E : End → State → Type 0} (o : Out A) (t : State) → stores_in o ≡ some t → Meets (λ _ u. P u) E o → P t
+of-stores : {A : Type 0} (P : State → Type 0) {E : End → State → Type 0} (o : Out A) (t : State) → stores_in o ≡ Some t → Meets (λ _ u. P u) E o → P t
 of-stores P (onward a u) t e m = let q : u ≡ t = cc in rw q at m.held
 of-stores P (ended y u) t e m = let z : ◌≡◌ {A = ℕ} 0 1 = cc in absurd (omega arith)
 
 module _ (w : World) (x : VoronoiSimplex) (l : Lists) where
-  pub started_with : (t : State) → state_after w x l 0 ≡ some t → t.tally.faces ≡ faces_at_start x
+  pub started_with : (t : State) → state_after w x l 0 ≡ Some t → t.tally.faces ≡ faces_at_start x
   unfolding state_after
   started_with t e = of-stores (λ u. u.tally.faces ≡ faces_at_start x) _ t e (meets-map _ (λ _ _ y. y.1) (meets-opened J nothing-kept w x (state_of l none_yet) (empty-lent l) tt))
 
-  pub after-expansions : (k : ℕ) → k ≤ 101 → (t : State) → state_after w x l k ≡ some t → (t.tally.done ≡ k) × Within (faces_at_start x) k t
+  pub after-expansions : (k : ℕ) → k ≤ 101 → (t : State) → state_after w x l k ≡ Some t → (t.tally.done ≡ k) × Within (faces_at_start x) k t
   unfolding state_after
   after-expansions k few t e =
       of-stores (λ u. (u.tally.done ≡ k) × Within (faces_at_start x) k u) _ t e (meets-map _ (λ _ _ y. (y.ready.completed, y.ready.within)) (meets-run_to J nothing-kept w x (state_of l none_yet) (empty-lent l) tt k few))
@@ -163,14 +163,14 @@ module _ (w : World) (x : VoronoiSimplex) (l : Lists) where
   rest-counts k n e g v h = meets-loop (λ c. k ≤ c.tally.done) (done-moves k) (faces_at_start x) w n k g.tol g.best v e h
 
   -- A RUN THAT HAS COMPLETED k EXPANSIONS COUNTS AT LEAST k at its end
-  pub counts_all : (k : ℕ) → k ≤ 101 → (u : State) → state_after w x l k ≡ some u → (e : End) (t : State) → run w x l ≡ ended e t → k ≤ t.tally.done
+  pub counts_all : (k : ℕ) → k ≤ 101 → (u : State) → state_after w x l k ≡ Some u → (e : End) (t : State) → run w x l ≡ ended e t → k ≤ t.tally.done
   unfolding run state_after ◌>>=◌
   counts_all k few u is e t q =
       by (run_to w x k (state_of l none_yet)) (meets-run_to J nothing-kept w x (state_of l none_yet) (empty-lent l) tt k few) is
       (sym (run-through w x k (101 - k) (omega arith) (state_of l none_yet)) ∙ q)
     where
       by : (o : Out Carried) → Meets (λ g v. Best-ready J nothing-kept (faces_at_start x) w k g.best v) (λ e v. Ended (faces_at_start x) e v × Unit {0}) o
-          → stores_in o ≡ some u → next o (rest w (101 - k)) ≡ ended e t → k ≤ t.tally.done
+          → stores_in o ≡ Some u → next o (rest w (101 - k)) ≡ ended e t → k ≤ t.tally.done
       by (ended y v) m z p = let no : ◌≡◌ {A = ℕ} 0 1 = cc in absurd (omega arith)
       by (onward g v) m z p =
           let h = m.held.ready in
@@ -212,6 +212,6 @@ module _ (w : World) (x : VoronoiSimplex) (l : Lists) where
     where
       by : (o : Out Carried) → run_to w x 0 (state_of l none_yet) ≡ o
           → Meets (λ g v. Best-ready J nothing-kept (faces_at_start x) w 0 g.best v) (λ e v. Ended (faces_at_start x) e v × Unit {0}) o
-          → stores_in o ≡ some c.stores → next o (rest w 101) ≡ ended e t → Completes w x l t.tally.done
+          → stores_in o ≡ Some c.stores → next o (rest w 101) ≡ ended e t → Completes w x l t.tally.done
       by (ended y v) is m z p = let no : ◌≡◌ {A = ℕ} 0 1 = cc in absurd (omega arith)
       by (onward g v) is m z p = (rw p at (completes-rest 101 0 g v is m.held.ready.completed)).held

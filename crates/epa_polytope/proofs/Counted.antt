@@ -1,10 +1,10 @@
 -- An expansion is counted where it is complete, and by nothing else. Assumes nothing.
 use mathlib.Core.Path.{◌≡◌}
-use mathlib.Core.Option.{Option, none, some}
+use Rattle.std.specs.Prelude.{Option, None, Some}
 use Prim.Native.Nat.{ℕ, zero, suc, ◌+◌, ◌≤◌}
 use native.Mathlib.Omega.{arith}
 use lib.Ieee.{Float}
-use Rattle.heap.specs.Heap.{Entry}
+use Rattle.heap.specs.declared.Entry.{Entry}
 use mathlib.Core.Bool.{Bool, true, false}
 use Rattle.epa_polytope.specs.Silhouette.{WalkAnswer}
 use Rattle.epa_polytope.specs.Start.{World}
@@ -14,7 +14,7 @@ use Rattle.epa_polytope.specs.Expansion.{Expansion, delete, queue_new, grow_at, 
 use Rattle.epa_polytope.specs.Run.{Best, pop_entry, pop_live, settle, visit, visit_if, complete, iterate}
 use Rattle.epa_polytope.proofs.Steps.{Meets, goes, ends, meets-bind, meets-then, meets-look, meets-put, meets-pure, meets-ok, meets-stop, meets-stop_if, meets-do_if, meets-branch, meets-link, meets-face, meets-queue, meets-vertex}
 use Rattle.epa_polytope.proofs.Moves.{Keeps, left, pass_from, with_pass}
-use Rattle.epa_polytope.specs.Silhouette.{Done, NoRoom}
+use Rattle.epa_polytope.specs.Silhouette.{Ok, Err}
 
 -- ---- the expansions that a run counts are those it completes
 
@@ -70,10 +70,10 @@ module _ (w : World) (k : ℕ) where
   done-gone i t h = meets-look DE _ _ t (meets-put DE _ _ t h)
 
   done-passed : (b : Bool) (a : WalkAnswer) (t : State) → t.tally.done ≡ k → Meets D DE (passed_if b a t)
-  done-passed true (Done n) t h = ends h
-  done-passed true NoRoom t h = ends h
-  done-passed false (Done n) t h = goes h
-  done-passed false NoRoom t h = ends h
+  done-passed true (Ok n) t h = ends h
+  done-passed true (Err _) t h = ends h
+  done-passed false (Ok n) t h = goes h
+  done-passed false (Err _) t h = ends h
 
   done-silhouette : (p i : ℕ) (t : State) → t.tally.done ≡ k → Meets D DE (silhouette w.walk_by w.numbers p i t)
   unfolding silhouette
@@ -119,8 +119,8 @@ module _ (w : World) (k : ℕ) where
 
   done-visit_if : (tol : Float) (b : Best) (o : Option Entry) (t : State) → t.tally.done ≡ k → Meets D DE (visit_if w tol b o t)
   unfolding visit settle expand
-  done-visit_if tol b none t h = done-answer _ heap_empty _ t h
-  done-visit_if tol b (some e) t h =
+  done-visit_if tol b None t h = done-answer _ heap_empty _ t h
+  done-visit_if tol b (Some e) t h =
       meets-look DE _ _ t
       (meets-then DE D _ _ _ t (meets-vertex DE _ _ t (λ _. h) (λ _. h)) λ _ t1 h1.
       meets-then DE D _ _ _ t1 (meets-do_if DE _ _ _ t1 (λ _. done-answer _ converged _ t1 h1) (λ _. h1)) λ _ t2 h2.

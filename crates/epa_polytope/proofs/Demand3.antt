@@ -1,7 +1,7 @@
 -- DEMAND 3, sentence by sentence, of any run: any format, any support function and face maker, any simplex, any lent stores. `Within f k` has the sizes of k expansions from f starting
 -- faces: at most f + 2k live, at most f + kf + k(k+1) made. `faces_at_start x` is 4 for a simplex of dimension 3, else 2. The proofs stand in Bounded.antt, Start.antt and Lengths.antt. Assumes nothing.
 use mathlib.Core.Path.{◌≡◌}
-use mathlib.Core.Option.{some}
+use Rattle.std.specs.Prelude.{Some}
 use Prim.Native.Nat.{ℕ, ◌+◌, ◌*◌, ◌<◌, ◌≤◌}
 use native.Mathlib.Omega.{arith}
 use lib.ListN.{length}
@@ -18,11 +18,11 @@ use Rattle.epa_polytope.proofs.Panics as Panics
 
 module _ (w : World) (x : VoronoiSimplex) (l : Lists) where
   -- A RUN THAT COMES TO ITS FIRST EXPANSION has made its f starting faces
-  pub started_with : (t : State) → state_after w x l 0 ≡ some t → t.tally.faces ≡ faces_at_start x
+  pub started_with : (t : State) → state_after w x l 0 ≡ Some t → t.tally.faces ≡ faces_at_start x
   started_with = Bounded.started_with w x l
 
   -- AFTER k EXPANSIONS at most f + 2k faces are live, and at most f + kf + k(k+1) were ever made
-  pub after-expansions : (k : ℕ) → k ≤ 101 → (t : State) → state_after w x l k ≡ some t → (t.tally.done ≡ k) × Within (faces_at_start x) k t
+  pub after-expansions : (k : ℕ) → k ≤ 101 → (t : State) → state_after w x l k ≡ Some t → (t.tally.done ≡ k) × Within (faces_at_start x) k t
   after-expansions = Bounded.after-expansions w x l
 
   -- COUNTING ONE UNDER WAY: after k expansions, before and after the pass of the next, the sizes are those of k + 1,
@@ -47,7 +47,7 @@ module _ (w : World) (x : VoronoiSimplex) (l : Lists) where
   at-most-101 = Start.few-complete w x l
 
   -- and the expansions that a run counts are those that it completes, no more and no fewer
-  pub counts_all : (k : ℕ) → k ≤ 101 → (u : State) → state_after w x l k ≡ some u → (e : End) (t : State) → run w x l ≡ ended e t → k ≤ t.tally.done
+  pub counts_all : (k : ℕ) → k ≤ 101 → (u : State) → state_after w x l k ≡ Some u → (e : End) (t : State) → run w x l ≡ ended e t → k ≤ t.tally.done
   counts_all = Bounded.counts_all w x l
 
   pub completes-counted : (e : End) (t : State) → run w x l ≡ ended e t → Completes w x l 0 → Completes w x l t.tally.done

@@ -3,14 +3,15 @@
 use mathlib.Core.Path.{◌≡◌, refl, ◌∙◌}
 use mathlib.Core.Bool.{Bool, true, false, cond}
 use mathlib.Core.List.{List, [], ◌∷◌, ◌++◌}
-use mathlib.Core.Option.{Option, some}
+use Rattle.std.specs.Prelude.{Option, Some}
 use Prim.Native.Nat.{ℕ, zero, suc, ◌<◌}
 use native.Mathlib.Omega.{arith}
 use lib.Dec.{eqb}
 use lib.ListN.{length}
 use lib.Ieee.{Float, le, neg}
 use Rattle.number.proofs.Order.{lt-neg-neg, neg-not-nan, lt_irrefl, not-less-trans, le-of-not-less}
-use Rattle.heap.specs.Heap.{Heap, Entry, entry_at, pushed, popped}
+use Rattle.heap.specs.declared.Entry.{Entry}
+use Rattle.heap.specs.Heap.{Heap, entry_at, pushed, popped}
 use Rattle.heap.specs.Ordered.{key_at, Held, NotNan, AtMost, Ordered}
 use Rattle.heap.proofs.Rising.{pushed-held, popped-held}
 use Rattle.heap.proofs.Ordered.{pushed-ordered, popped-ordered, first-greatest}
@@ -64,7 +65,7 @@ module _ (R : Float → Float → Type 0) (I : Float → Heap → Type 0)
 
   -- after the entry x, with more to come if it is of a deleted face
   one-popped : (b : Float) (x : Entry) (n : ℕ) (t : State) (live : Bool) → R b x.key → I x.key (heap_of t) → Pops x.key (popped_from n t) (pop_live n t)
-      → Pops b (x ∷ cond live [] (popped_from n t)) (branch live (pure (some x)) (pop_live n) t)
+      → Pops b (x ∷ cond live [] (popped_from n t)) (branch live (pure (Some x)) (pop_live n) t)
   unfolding branch pure
   one-popped b x n t true r i more = record { chain = (r, tt); leaves = goes (refl, i) }
   one-popped b x n t false r i more = record { chain = (r, more.chain); leaves = more.leaves }

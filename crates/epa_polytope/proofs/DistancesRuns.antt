@@ -8,7 +8,7 @@ use native.Mathlib.Decide.{ℕ_discrete}
 use lib.ListN.{get_or}
 use lib.Ieee.{Float, nan}
 use Rattle.number.proofs.Order.{lt_irrefl}
-use Rattle.heap.specs.Heap.{Entry}
+use Rattle.heap.specs.declared.Entry.{Entry}
 use Rattle.heap.specs.Ordered.{Held, NotNan}
 use Rattle.epa_polytope.specs.Stores.{Lists, State, state_of, none_yet, heap_of}
 use Rattle.epa_polytope.specs.Steps.{Out, onward, ended}

@@ -4,7 +4,7 @@
 use mathlib.Core.Path.{◌≡◌, refl, sym, subst, ◌∙◌}
 use mathlib.Core.Bool.{Bool, true, false, true≢false}
 use mathlib.Core.List.{List, [], ◌∷◌, ◌++◌}
-use mathlib.Core.Option.{Option, none, some}
+use Rattle.std.specs.Prelude.{Option, None, Some}
 use Prim.Native.Nat.{ℕ, zero, suc, ◌+◌, ◌<◌}
 use native.Mathlib.Omega.{arith}
 use lib.ListN.{length}
@@ -12,13 +12,14 @@ use lib.Ieee.{Float, lt, neg}
 use Rattle.number.proofs.Order.{less-not-nan, not-less-trans, lt-neg}
 use Rattle.vector.specs.Vector.{zero_f, dot_v}
 use Rattle.shape.specs.declared.vertex.Vertex.{Vertex}
-use Rattle.heap.specs.Heap.{Heap, Entry, entry, pushed}
+use Rattle.heap.specs.declared.Entry.{Entry}
+use Rattle.heap.specs.Heap.{Heap, entry, pushed}
 use Rattle.heap.specs.Ordered.{Held, NotNan, AtMost, Ordered}
 use Rattle.heap.proofs.Rising.{pushed-held}
 use Rattle.heap.proofs.Ordered.{pushed-ordered}
 use Rattle.heap.proofs.Multiset.{not-nan-before}
 use Rattle.epa_polytope.specs.Stores.{State, Lists, Made, Three, state_of, none_yet, room_for, the_heap, heap_of, vertex_at, normal_at, point_at, corner_at}
-use Rattle.epa_polytope.specs.Silhouette.{WalkAnswer, Done, NoRoom}
+use Rattle.epa_polytope.specs.Silhouette.{WalkAnswer, Ok, Err}
 use Rattle.epa_polytope.specs.Steps.{End, answers, nothing, panics, no_room, Found, Lost, key_at_start, none_holds, no_silhouette, all_deleted, key_later, Out, onward, ended, Nil}
 use Rattle.epa_polytope.specs.Steps.{Numbers, push_vertex, push_face, enqueue, queue_face, answer_of, answer}
 use Rattle.epa_polytope.specs.Start.{Walk, World, format_of, VoronoiSimplex, push_points, first_far, second, bootstrap, start_vertices, dist_tol, exchange, four_faces, queue_start, queue_four, start_four, third}
@@ -94,8 +95,8 @@ module _ (I : Heap → Type 0) where
   keep-points x (suc n) i s h = meets-then NotLater (λ _ t. I (heap_of t)) _ _ _ s (keep-vertex _ s h) λ _ t k. keep-points x n (i + 1) t k
 
   keep-second : (v : Vertex) (o : Option Vertex) (s : State) → I (heap_of s) → Meets (λ _ t. I (heap_of t)) NotLater (second v o s)
-  keep-second v none s h = meets-stop NotLater _ _ s tt
-  keep-second v (some p) s h = keep-vertex p s h
+  keep-second v None s h = meets-stop NotLater _ _ s tt
+  keep-second v (Some p) s h = keep-vertex p s h
 
   pub keep-vertices : (w : World) (x : VoronoiSimplex) (s : State) → I (heap_of s) → Meets (λ _ t. I (heap_of t)) NotLater (start_vertices w x s)
   unfolding start_vertices bootstrap
@@ -127,10 +128,10 @@ module _ (I : Heap → Type 0) where
   keep-delete i s h = meets-look NotLater _ _ s (meets-put NotLater _ _ s h)
 
   keep-passed : (b : Bool) (a : WalkAnswer) (t : State) → I (heap_of t) → Meets (λ _ t. I (heap_of t)) NotLater (passed_if b a t)
-  keep-passed true (Done n) t h = ends tt
-  keep-passed true NoRoom t h = ends tt
-  keep-passed false (Done n) t h = goes h
-  keep-passed false NoRoom t h = ends tt
+  keep-passed true (Ok n) t h = ends tt
+  keep-passed true (Err _) t h = ends tt
+  keep-passed false (Ok n) t h = goes h
+  keep-passed false (Err _) t h = ends tt
 
   keep-silhouette : (y : Walk) (w : Numbers) (p i : ℕ) (s : State) → I (heap_of s) → Meets (λ _ t. I (heap_of t)) NotLater (silhouette y w p i s)
   unfolding silhouette
@@ -246,8 +247,8 @@ meets-opened w x l =
 
 -- the entry that was popped has the key k
 abbrev pub IsKey : Option Entry → Float → Type 0
-IsKey none k = Unit {0}
-IsKey (some e) k = e.key ≡ k
+IsKey None k = Unit {0}
+IsKey (Some e) k = e.key ≡ k
 
 -- k is the key of the face that is expanded; Q is known of each key that is made, and I is kept by each push of a key that is at most k
 module _ (w : World) (tol k : Float) (real : NotNan k) (low : AtMost tol k) (Q : Float → Type 0) (I : Heap → Type 0)
@@ -305,8 +306,8 @@ module _ (w : World) (tol k : Float) (real : NotNan k) (low : AtMost tol k) (Q :
     Before p t = Of p.expansion × I (heap_of t)
 
     meets-up_to_pass_of : (o : Option Entry) (s : State) → IsKey o k → I (heap_of s) → Meets Before NotLater (up_to_pass_of w g o s)
-    meets-up_to_pass_of none s e h = meets-answer _ w.numbers _ _ s
-    meets-up_to_pass_of (some a) s e h =
+    meets-up_to_pass_of None s e h = meets-answer _ w.numbers _ _ s
+    meets-up_to_pass_of (Some a) s e h =
         meets-look NotLater _ _ s
         (meets-then NotLater (λ _ t. I (heap_of t)) _ _ _ s (keep-vertex I _ s h) λ _ s1 h1.
         meets-then NotLater (λ _ t. I (heap_of t)) _ _ _ s1 (meets-do_if NotLater _ _ _ s1 (λ _. meets-answer _ w.numbers _ _ s1) (λ _. h1)) λ _ s2 h2.

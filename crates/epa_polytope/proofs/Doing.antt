@@ -2,10 +2,11 @@
 use mathlib.Core.Path.{◌≡◌, refl, sym, ap, subst, ◌∙◌}
 use mathlib.Core.Bool.{Bool, true, false}
 use mathlib.Core.List.{[]}
-use Rattle.epa_polytope.specs.declared.types.Step.{Step}
-use Rattle.epa_polytope.specs.declared.types.Step.TheVariants.{Onward, Ended}
+use Rattle.epa_polytope.specs.Promises.{Step, finish}
+use Rattle.std.specs.Prelude.{Result, Ok, Err, IsErrAnd}
 use Rattle.epa_polytope.specs.declared.types.Begun.{Begun}
 use Rattle.epa_polytope.specs.declared.types.Visited.{Visited}
+use Rattle.epa_polytope.specs.declared.types.Finish.{Finish}
 use lib.Ieee.{Float}
 use Rattle.epa_polytope.specs.Run.{Best}
 use Rattle.epa_polytope.specs.Stores.{Lists, Tally, State, state_of}
@@ -33,49 +34,49 @@ does-only {A} {R} {out} g l1 l2 r1 r2 h1 h2 =
     (sym (g.kept l1 r1) ∙ ap (λ (o : Out A). (left o).lists) e ∙ g.kept l2 r2, sym (g.answered l1 r1) ∙ ap g.read e ∙ g.answered l2 r2)
 
 abbrev step_in : Out Nil → Step
-step_in (onward _ s) = Onward s.tally
-step_in (ended e s) = Ended e s.tally
+step_in (onward _ s) = Ok s.tally
+step_in (ended e s) = Err (finish e s.tally)
 
 pub steps-readable : Readable step_out
 steps-readable = record { read = step_in; answered = answer-read; kept = lists-kept }
   where
     answer-read : (l : Lists) (r : Step) → step_in (step_out l r) ≡ r
-    answer-read l (Onward c) = refl
-    answer-read l (Ended e c) = refl
+    answer-read l (Ok c) = refl
+    answer-read l (Err x) = refl
 
     lists-kept : (l : Lists) (r : Step) → (left (step_out l r)).lists ≡ l
-    lists-kept l (Onward c) = refl
-    lists-kept l (Ended e c) = refl
+    lists-kept l (Ok c) = refl
+    lists-kept l (Err x) = refl
 
-abbrev begin_in : Out Float → Begun
-begin_in (onward tol s) = Begun.Ready tol s.tally
-begin_in (ended e s) = Begun.Ended e s.tally
+abbrev begin_in : Out Float → Result Begun Finish
+begin_in (onward tol s) = Ok (record { tol = tol; tally = s.tally })
+begin_in (ended e s) = Err (finish e s.tally)
 
 pub begins-readable : Readable begin_out
 begins-readable = record { read = begin_in; answered = answer-read; kept = lists-kept }
   where
-    answer-read : (l : Lists) (r : Begun) → begin_in (begin_out l r) ≡ r
-    answer-read l (Begun.Ready tol c) = refl
-    answer-read l (Begun.Ended e c) = refl
+    answer-read : (l : Lists) (r : Result Begun Finish) → begin_in (begin_out l r) ≡ r
+    answer-read l (Ok b) = refl
+    answer-read l (Err x) = refl
 
-    lists-kept : (l : Lists) (r : Begun) → (left (begin_out l r)).lists ≡ l
-    lists-kept l (Begun.Ready tol c) = refl
-    lists-kept l (Begun.Ended e c) = refl
+    lists-kept : (l : Lists) (r : Result Begun Finish) → (left (begin_out l r)).lists ≡ l
+    lists-kept l (Ok b) = refl
+    lists-kept l (Err x) = refl
 
-abbrev visit_in : Out Best → Visited
-visit_in (onward b s) = Visited.Next b s.tally
-visit_in (ended e s) = Visited.Ended e s.tally
+abbrev visit_in : Out Best → Result Visited Finish
+visit_in (onward b s) = Ok (record { best = b; tally = s.tally })
+visit_in (ended e s) = Err (finish e s.tally)
 
 pub visits-readable : Readable visit_out
 visits-readable = record { read = visit_in; answered = answer-read; kept = lists-kept }
   where
-    answer-read : (l : Lists) (r : Visited) → visit_in (visit_out l r) ≡ r
-    answer-read l (Visited.Next b c) = refl
-    answer-read l (Visited.Ended e c) = refl
+    answer-read : (l : Lists) (r : Result Visited Finish) → visit_in (visit_out l r) ≡ r
+    answer-read l (Ok v) = refl
+    answer-read l (Err x) = refl
 
-    lists-kept : (l : Lists) (r : Visited) → (left (visit_out l r)).lists ≡ l
-    lists-kept l (Visited.Next b c) = refl
-    lists-kept l (Visited.Ended e c) = refl
+    lists-kept : (l : Lists) (r : Result Visited Finish) → (left (visit_out l r)).lists ≡ l
+    lists-kept l (Ok v) = refl
+    lists-kept l (Err x) = refl
 
 -- ---- steps in sequence
 
@@ -89,14 +90,14 @@ pub read_here : {R : Type 0} (d : Lists → R) {l0 : Lists → Lists} {r : R} �
 read_here d g l e = g l ∙ ap d e
 
 -- after a first step that answers no more than the tally, or the run's end
-module _ {B R : Type 0} {out : Lists → R → Out B} {a : Act Nil} (b : Act B) {l l1 : Lists} {c : Tally} {r : Step} {x : Tally} (does : Does step_out a l c l1 r) where
+module _ {B R : Type 0} {out : Lists → R → Out B} {a : Act Nil} (b : Act B) {l l1 : Lists} {c : Tally} {r : Step} (does : Does step_out a l c l1 r) where
   -- it goes on, and the second does the rest
-  pub goes_on : {l2 : Lists} {r2 : R} → r ≡ Onward x → Does out b l1 x l2 r2 → Does out (a >> b) l c l2 r2
+  pub goes_on : {x : Tally} {l2 : Lists} {r2 : R} → r ≡ Ok x → Does out b l1 x l2 r2 → Does out (a >> b) l c l2 r2
   unfolding ◌>>◌
   goes_on t h = record { same = h.same ∙ ap (λ (o : Out Nil). next o (λ _. b)) (sym (ap (step_out l1) t) ∙ does.same) }
 
   -- it ends the run: the answer r2 says so
-  pub ends-here : {e : End} (r2 : R) → out l1 r2 ≡ ended e (state_of l1 x) → r ≡ Ended e x → Does out (a >> b) l c l1 r2
+  pub ends-here : {x : Finish} (r2 : R) → out l1 r2 ≡ ended x.end (state_of l1 x.tally) → r ≡ Err x → Does out (a >> b) l c l1 r2
   unfolding ◌>>◌
   ends-here r2 tells t = record { same = tells ∙ ap (λ (o : Out Nil). next o (λ _. b)) (sym (ap (step_out l1) t) ∙ does.same) }
 
@@ -129,6 +130,14 @@ pub done-if : {b : Bool} {a : Act Nil} {l l' : Lists} {c : Tally} {r : Step} →
 unfolding do_if
 done-if t h = record { same = rw t h.same }
 
-pub not_done : {b : Bool} (a : Act Nil) {l : Lists} {c : Tally} → b ≡ false → Does step_out (do_if b a) l c l (Onward c)
+pub not_done : {b : Bool} (a : Act Nil) {l : Lists} {c : Tally} → b ≡ false → Does step_out (do_if b a) l c l (Ok c)
 unfolding do_if
 not_done a t = record { same = rw t }
+
+-- ---- what `?` hands on
+
+-- the answer that a `?` returns is the refusal that it found
+pub hands-on : {A R : Type 0} {out : Lists → Result R Finish → Out A} {a : Act A} {l l' : Lists} {c : Tally} {x : Finish} {r : Result R Finish} → IsErrAnd r (λ y. y ≡ x)
+    → Does out a l c l' (Err x) → Does out a l c l' r
+hands-on {r = Ok _} h d = absurd h
+hands-on {r = Err _} h d = rw h d

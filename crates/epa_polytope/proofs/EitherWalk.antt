@@ -8,7 +8,7 @@ use lib.ListN.{length}
 use Rattle.epa_polytope.specs.Stores.{State, live_to, live}
 use Rattle.epa_polytope.specs.Steps.{Numbers}
 use Rattle.epa_polytope.specs.Start.{Walk, recursive, plain}
-use Rattle.epa_polytope.specs.Silhouette.{Question, WalkAnswer, Done, Mesh, Walked, facing, recorded_of}
+use Rattle.epa_polytope.specs.Silhouette.{Question, WalkAnswer, Ok, Mesh, Walked, facing, recorded_of}
 use Rattle.epa_polytope.specs.PlainWalk.{walking, plain_pass}
 use Rattle.epa_polytope.specs.Expansion.{mesh_of, before_pass, pass_by}
 use Rattle.epa_polytope.specs.Bounds.{NeighboursIn}
@@ -25,7 +25,7 @@ abbrev pub bounds : ℕ → Walked → ℕ
 bounds N w = live_to N w.deleted + 3
 
 -- from no edge and no question, over a list l whose places above the mark `top` are as in l0
-module _ (m : Mesh) (N : ℕ) (h : NeighboursIn N N m.ids) (w : Walked) (begins : w.answer ≡ Done 0) (l l0 : List ℕ) (top : ℕ)
+module _ (m : Mesh) (N : ℕ) (h : NeighboursIn N N m.ids) (w : Walked) (begins : w.answer ≡ Ok 0) (l l0 : List ℕ) (top : ℕ)
     (places : length l ≡ length l0) (top_fits : top ≤ length l0 / 2) (given : Returned 0 0 (top * 2) l l0) where
   module _ (a b c : Question) (ya : Asked N a) (yb : Asked N b) (yc : Asked N c) where
     -- A PASS BY EITHER WALK
@@ -51,7 +51,7 @@ module _ (m : Mesh) (N : ℕ) (h : NeighboursIn N N m.ids) (w : Walked) (begins 
 
 -- it holds no question where it goes on
 pub none_left : (y : Walk) (m : Mesh) (w : Walked) (l : List ℕ) (a b c : Question) {n : ℕ} → (pass_by y m (walking w l 0 false) a b c).short ≡ false
-    → (pass_by y m (walking w l 0 false) a b c).walk.answer ≡ Done n → (pass_by y m (walking w l 0 false) a b c).held ≡ 0
+    → (pass_by y m (walking w l 0 false) a b c).walk.answer ≡ Ok n → (pass_by y m (walking w l 0 false) a b c).held ≡ 0
 unfolding pass_by plain_pass
 none_left recursive m w l a b c e x = refl
 none_left plain m w l a b c e x = rests-empty m _ (plain-rests m _) e x

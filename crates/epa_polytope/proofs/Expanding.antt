@@ -2,22 +2,19 @@
 use mathlib.Core.Path.{◌≡◌, refl, ap, ◌∙◌}
 use mathlib.Core.Bool.{Bool, true, false}
 use mathlib.Core.List.{List}
-use Prim.Native.Nat.{ℕ, ◌-◌, ◌/◌, ◌<◌, ◌≤◌, max}
-use native.Mathlib.Omega.{arith}
+use Prim.Native.Nat.{ℕ, ◌-◌, ◌/◌}
 use lib.ListN.{length, set}
 use borrow.Author.Tests.{eq-eqb, ne_eqb}
+use Rattle.epa_polytope.specs.declared.types.Finish.{Finish}
 use Rattle.epa_polytope.specs.declared.types.Tally.{Tally}
 use Rattle.epa_polytope.specs.declared.types.Expansion.{Expansion}
 use Rattle.epa_polytope.specs.declared.types.PlainSoFar.{PlainSoFar}
-use Rattle.epa_polytope.specs.declared.types.WalkAnswer.{WalkAnswer}
-use Rattle.epa_polytope.specs.declared.types.WalkAnswer.TheVariants.{Done, NoRoom}
+use Rattle.epa_polytope.specs.Silhouette.{WalkAnswer}
 use Rattle.epa_polytope.specs.declared.types.Lost.TheVariants.{AllDeleted, NoSilhouette}
-use Rattle.epa_polytope.specs.declared.types.End.{End}
-use Rattle.epa_polytope.specs.declared.types.End.TheVariants.{Nothing, NoRoom as NoRoomIn}
-use Rattle.epa_polytope.specs.declared.types.Store.TheVariants.{Edges as EdgeStore, Pending as PendingStore}
-use Rattle.epa_polytope.specs.declared.types.Step.{Step}
-use Rattle.epa_polytope.specs.declared.types.Step.TheVariants.{Onward, Ended}
-use Rattle.epa_polytope.specs.Stores.{Lists, state_of, with_face_ids, with_deleted, with_edges, with_pending, edge_count, pending_count, most_count, missed_count, linked_in}
+use Rattle.epa_polytope.specs.declared.types.End.TheVariants.{Nothing}
+use Rattle.epa_polytope.specs.Promises.{Step, finish}
+use Rattle.std.specs.Prelude.{Ok, Err}
+use Rattle.epa_polytope.specs.Stores.{Lists, state_of, with_face_ids, with_deleted, with_edges, with_pending, edge_count, linked_in}
 use Rattle.epa_polytope.specs.Silhouette.{walked, Facing, facing_from, recorded_of}
 use Rattle.epa_polytope.specs.PlainWalk.{Walking, walking, walking_by}
 use Rattle.epa_polytope.specs.Start.{Walk}
@@ -29,12 +26,12 @@ use Rattle.epa_polytope.proofs.Doing.{looked, stopped, not_stopped, goes_on, end
 
 -- ---- the ring
 
-pub edges-cleared : (l : Lists) (run : Tally) {edges : List ℕ} → edges ≡ blank run.edges l.edges → Does step_out clear_edges l run (with_edges edges l) (Onward (edge_count 0 run))
+pub edges-cleared : (l : Lists) (run : Tally) {edges : List ℕ} → edges ≡ blank run.edges l.edges → Does step_out clear_edges l run (with_edges edges l) (Ok (edge_count 0 run))
 unfolding clear_edges ◌>>=◌ look put
 edges-cleared l run e = record { same = rw e }
 
 module _ (first : ℕ) (l : Lists) (run : Tally) where
-  pub none_made : run.faces ≡ first → Does step_out (close_ring first) l run l (Ended (Nothing AllDeleted) run)
+  pub none_made : run.faces ≡ first → Does step_out (close_ring first) l run l (Err (finish (Nothing AllDeleted) run))
   unfolding close_ring
   none_made e = looked _ (stopped _ _ refl (eq-eqb run.faces first e))
 
@@ -48,58 +45,31 @@ module _ (first : ℕ) (l : Lists) (run : Tally) where
 -- ---- the new faces
 
 module _ (w : Numbers) (u : Expansion) (l : Lists) (run : Tally) where
-  pub no_edges : run.edges ≡ 0 → Does step_out (regrow w u) l run l (Ended (Nothing NoSilhouette) run)
+  pub no_edges : run.edges ≡ 0 → Does step_out (regrow w u) l run l (Err (finish (Nothing NoSilhouette) run))
   unfolding regrow
   no_edges e = looked _ (stopped _ _ refl (eq-eqb run.edges 0 e))
 
-  module _ {l1 : Lists} {r : Step} {x : Tally} (some : run.edges ≡ 0 → ⊥) (g : Does step_out (grow_all w u run.edges 0) l run l1 r) where
-    pub regrow-ended : {e : End} → r ≡ Ended e x → Does step_out (regrow w u) l run l1 r
+  module _ {l1 : Lists} {r : Step} (some : run.edges ≡ 0 → ⊥) (g : Does step_out (grow_all w u run.edges 0) l run l1 r) where
+    pub regrow-ended : {e : Finish} → r ≡ Err e → Does step_out (regrow w u) l run l1 (Err e)
     unfolding regrow
-    regrow-ended t = looked _ (not_stopped _ (ne_eqb run.edges 0 some) (ends-here _ g _ (ap (step_out l1) t) t))
+    regrow-ended t = looked _ (not_stopped _ (ne_eqb run.edges 0 some) (ends-here _ g _ refl t))
 
-    pub regrown : {l2 : Lists} {r2 : Step} → r ≡ Onward x → Does step_out (close_ring run.faces) l1 x l2 r2 → Does step_out (regrow w u) l run l2 r2
+    pub regrown : {x : Tally} {l2 : Lists} {r2 : Step} → r ≡ Ok x → Does step_out (close_ring run.faces) l1 x l2 r2 → Does step_out (regrow w u) l run l2 r2
     unfolding regrow
     regrown t c = looked _ (not_stopped _ (ne_eqb run.edges 0 some) (goes_on _ g t c))
 
 -- ---- the silhouette
 
-pub passed-more : (c : Tally) (n held missed : ℕ) → c.most < n → edge_count n (pending_count held (most_count n (missed_count missed c))) ≡ passed_tally n held missed c
-passed-more c n held missed h = let e : max c.most n ≡ n = omega arith in rw e
-
-pub passed-same : (c : Tally) (n held missed : ℕ) → n ≤ c.most → edge_count n (pending_count held (missed_count missed c)) ≡ passed_tally n held missed c
-passed-same c n held missed h = let e : max c.most n ≡ c.most = omega arith in rw e
-
 told-as : (b : Bool) (a : WalkAnswer) (l : Lists) (c : Tally) → step_out l (finished_if b a c) ≡ passed_if b a (state_of l c)
-told-as true (Done n) l c = refl
-told-as true NoRoom l c = refl
-told-as false (Done n) l c = refl
-told-as false NoRoom l c = refl
-
--- how the code tells it
-module _ (c : Tally) (room : ℕ) (r : PlainSoFar) {n : ℕ} {x : Tally} (en : n ≡ recorded_of room r.answer) (ex : x ≡ passed_tally n r.held r.missed c) where
-  is-tally : x ≡ passed_tally (recorded_of room r.answer) r.held r.missed c
-  is-tally = ex ∙ ap (λ (k : ℕ). passed_tally k r.held r.missed c) en
-
-  as-told : {b : Bool} {a : WalkAnswer} → r.short ≡ b → r.answer ≡ a → finished_if b a x ≡ finished_of c room r
-  as-told eb ea = let t = is-tally in cc
-
-  pub finished-short : r.short ≡ true → Ended (NoRoomIn PendingStore) x ≡ finished_of c room r
-  finished-short e = by r.answer refl
-    where
-      by : (a : WalkAnswer) → r.answer ≡ a → Ended (NoRoomIn PendingStore) x ≡ finished_of c room r
-      by (Done k) ea = as-told e ea
-      by NoRoom ea = as-told e ea
-
-  pub finished_on : {k : ℕ} → r.short ≡ false → r.answer ≡ Done k → Onward x ≡ finished_of c room r
-  finished_on e ea = as-told e ea
-
-  pub finished-full : r.short ≡ false → r.answer ≡ NoRoom → Ended (NoRoomIn EdgeStore) x ≡ finished_of c room r
-  finished-full e ea = as-told e ea
+told-as true (Ok n) l c = refl
+told-as true (Err _) l c = refl
+told-as false (Ok n) l c = refl
+told-as false (Err _) l c = refl
 
 -- the pass of the three neighbours of the face i, by either walk, comes as far as r
 pub lined : (y : Walk) (w : Numbers) (point i : ℕ) (l : Lists) (run : Tally) {a b c : Facing} {deleted edges pending : List ℕ} {r : PlainSoFar} {room : ℕ} {x : Step}
     → a ≡ facing_from l.face_ids i 0 run.missed → b ≡ facing_from l.face_ids i 1 a.missed → c ≡ facing_from l.face_ids i 2 b.missed
-    → walking_by deleted edges pending r ≡ pass_by y (mesh_of w l point) (walking (walked l.deleted l.edges c.missed (Done 0)) l.pending 0 false) a.question b.question c.question
+    → walking_by deleted edges pending r ≡ pass_by y (mesh_of w l point) (walking (walked l.deleted l.edges c.missed (Ok 0)) l.pending 0 false) a.question b.question c.question
     → room ≡ length l.edges / 2 → x ≡ finished_of run room r → Does step_out (silhouette y w point i) l run (with_deleted deleted (with_edges edges (with_pending pending l))) x
 unfolding silhouette
 lined y w point i l run {deleted = deleted} {edges = edges} {pending = pending} {r = r} {room = room} ia ib ic does is_room is_end =
@@ -111,14 +81,14 @@ lined y w point i l run {deleted = deleted} {edges = edges} {pending = pending} 
 
 module _ (y : Walk) (w : Numbers) (u : Expansion) (l : Lists) (run : Tally) {deleted : List ℕ} {l1 : Lists} {r : Step} (gone : deleted ≡ set l.deleted u.face 1)
     (g : Does step_out (silhouette y w u.point u.face) (with_deleted deleted l) run l1 r) where
-  deletes : Does step_out (delete u.face) l run (with_deleted deleted l) (Onward run)
+  deletes : Does step_out (delete u.face) l run (with_deleted deleted l) (Ok run)
   unfolding delete ◌>>=◌ look put
   deletes = record { same = rw gone }
 
-  pub expand-ended : {e : End} {x : Tally} → r ≡ Ended e x → Does step_out (expand y w u) l run l1 r
+  pub expand-ended : {e : Finish} → r ≡ Err e → Does step_out (expand y w u) l run l1 (Err e)
   unfolding expand
-  expand-ended t = goes_on _ deletes refl (ends-here _ g _ (ap (step_out l1) t) t)
+  expand-ended t = goes_on _ deletes refl (ends-here _ g _ refl t)
 
-  pub expanded : {x : Tally} {l2 : Lists} {r2 : Step} → r ≡ Onward x → Does step_out (regrow w u) l1 x l2 r2 → Does step_out (expand y w u) l run l2 r2
+  pub expanded : {x : Tally} {l2 : Lists} {r2 : Step} → r ≡ Ok x → Does step_out (regrow w u) l1 x l2 r2 → Does step_out (expand y w u) l run l2 r2
   unfolding expand
   expanded t h = goes_on _ deletes refl (goes_on _ g t h)

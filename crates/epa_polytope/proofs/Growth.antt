@@ -8,8 +8,8 @@ use native.Mathlib.Decide.{ℕ_discrete, dec_le}
 use lib.ListN.{get_or, length}
 use lib.Seq.{get_or-set_other}
 use borrow.Author.Tests.{eqb-false}
-use Rattle.heap.specs.Heap.{Entry}
-use Rattle.epa_polytope.specs.Silhouette.{WalkAnswer, Done, NoRoom, facing, recorded_of}
+use Rattle.heap.specs.declared.Entry.{Entry}
+use Rattle.epa_polytope.specs.Silhouette.{WalkAnswer, Ok, Err, facing, recorded_of}
 use Rattle.epa_polytope.specs.PlainWalk.{Walking}
 use Rattle.epa_polytope.specs.Start.{Walk}
 use Rattle.epa_polytope.specs.Stores.{State, the_edges, the_pending, live, corner_at, Made, room_for, the_faces, neighbour_in, linked_in, the_heap, heap_of}
@@ -178,7 +178,7 @@ module _ (J : State → Type 0) where
               below : suc (live s) ≤ f + 2 * k → (live s + 3 ≤ length s.lists.pending / 2 → ⊥) → length s.lists.pending / 2 < f + 2 * suc k
               below a l = omega arith
 
-      meets-passed : (s : State) (t : Walking) (i n : ℕ) → Deleted f k u.point i n s → Kept s i t → ((e : ℕ) → t.short ≡ false → t.walk.answer ≡ Done e → t.held ≡ 0)
+      meets-passed : (s : State) (t : Walking) (i n : ℕ) → Deleted f k u.point i n s → Kept s i t → ((e : ℕ) → t.short ≡ false → t.walk.answer ≡ Ok e → t.held ≡ 0)
           → J (after_pass s t (recorded_of (room_for the_edges s.lists) t.walk.answer)) → Meets (λ _ t. Lined f k u.point n t) E (passed s t)
       meets-passed s t i n h st left j = by t.short t.walk.answer refl refl j
         where
@@ -186,7 +186,7 @@ module _ (J : State → Type 0) where
           R = room_for the_edges s.lists
 
           by : (b : Bool) (a : WalkAnswer) → t.short ≡ b → t.walk.answer ≡ a → J (after_pass s t (recorded_of R a)) → Meets (λ _ t. Lined f k u.point n t) E (passed_if b a (after_pass s t (recorded_of R a)))
-          by false (Done e) eb ea j =
+          by false (Ok e) eb ea j =
               let x = h.sound in
               let few = ap (asked_of R) ea in
               goes (record {
@@ -198,13 +198,13 @@ module _ (J : State → Type 0) where
                 room_live = omega (arith, h.less_live, st.few, few);
                 room_made = omega (arith, h.less_live, h.old_made, bound-suc f k, st.few, few);
               })
-          by false NoRoom eb ea j =
+          by false (Err _) eb ea j =
               let few = ap (asked_of R) ea in
               ends (end-stage (no_room the_edges) (after_pass s t R) (passed-stage s t i n R h st (omega (arith, st.few, few)) j) (rw st.reached.same_room (omega (arith, h.less_live, st.few, few))) refl)
-          by true (Done e) eb ea j =
+          by true (Ok e) eb ea j =
               let few = ap (asked_of R) ea in
               ends (end-stage (no_room the_pending) (after_pass s t e) (passed-stage s t i n e h st (omega (arith, st.few, few)) j) (rw st.places (short-of s t i n h st eb)) refl)
-          by true NoRoom eb ea j =
+          by true (Err _) eb ea j =
               let few = ap (asked_of R) ea in
               ends (end-stage (no_room the_pending) (after_pass s t R) (passed-stage s t i n R h st (omega (arith, st.few, few)) j) (rw st.places (short-of s t i n h st eb)) refl)
 

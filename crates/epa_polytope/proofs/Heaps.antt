@@ -6,7 +6,8 @@ use native.Mathlib.Omega.{arith}
 use lib.Dec.{ltb}
 use borrow.Author.Tests.{ltb-true, le-ltb}
 use Rattle.heap.proofs.Steps.{swap-count}
-use Rattle.heap.specs.Heap.{Heap, Entry, heap, entry_at, put, swap, less, rise_in, rise, Placed, placed, greater, sink_in, sink, pushed, cleared, settled, popped}
+use Rattle.heap.specs.declared.Entry.{Entry}
+use Rattle.heap.specs.Heap.{Heap, heap, entry_at, put, swap, less, rise_in, rise, Placed, placed, greater, sink_in, sink, pushed, cleared, settled, popped}
 use Rattle.epa_polytope.proofs.Basics.{all_set, all_push, all-fewer, all_none}
 use Rattle.epa_polytope.proofs.Places.{stays, after, one_set}
 use Rattle.epa_polytope.specs.Bounds.{Good}

@@ -1,7 +1,7 @@
 -- The expansions, one after another: each keeps what every move keeps. Assumes nothing.
 use mathlib.Core.Path.{◌≡◌, refl, ◌∙◌}
 use mathlib.Core.Bool.{Bool, true, false, cond}
-use mathlib.Core.Option.{Option, none, some}
+use Rattle.std.specs.Prelude.{Option, None, Some}
 use Prim.Native.Nat.{ℕ, zero, suc, ◌+◌, ◌<◌, ◌≤◌}
 use native.Mathlib.Omega.{arith}
 use lib.ListN.{get_or}
@@ -9,7 +9,8 @@ use lib.Ieee.{Float, lt}
 use Rattle.vector.specs.Vector.{dot_v}
 use Rattle.shape.specs.declared.vertex.Vertex.{Vertex}
 use borrow.Author.Tests.{eqb-true}
-use Rattle.heap.specs.Heap.{Entry, popped}
+use Rattle.heap.specs.declared.Entry.{Entry}
+use Rattle.heap.specs.Heap.{popped}
 use Rattle.epa_polytope.specs.Start.{World, format_of}
 use Rattle.epa_polytope.specs.Stores.{State, normal_at, room_for, the_vertices, heap_of}
 use Rattle.epa_polytope.specs.Steps.{End, Found, ◌>>=◌, ◌>>◌, pure, look, put, answer_of, answer, converged, stuck, heap_empty, enough_expansions}
@@ -24,8 +25,8 @@ use Rattle.epa_polytope.proofs.Steps.{Meets, goes, meets-bind, meets-then, meets
 
 -- an entry that was popped is of a live face
 abbrev pub IsLive : Option Entry → State → Type 0
-IsLive none s = Unit {0}
-IsLive (some e) s = (e.face < s.tally.faces) × (get_or s.lists.deleted e.face 1 ≡ 0)
+IsLive None s = Unit {0}
+IsLive (Some e) s = (e.face < s.tally.faces) × (get_or s.lists.deleted e.face 1 ≡ 0)
 
 module _ (J : State → Type 0) (K : Keeps J) (f : ℕ) (w : World) where
   abbrev E : End → State → Type 0
@@ -58,16 +59,16 @@ module _ (J : State → Type 0) (K : Keeps J) (f : ℕ) (w : World) where
 
   pub meets-pop_live : (k n : ℕ) (s : State) → s.tally.heap ≡ n → Ready J f k s → Meets (λ o t. Ready J f k t × IsLive o t × (t.tally.faces ≡ s.tally.faces)) E (pop_live n s)
   unfolding pop_live
-  meets-pop_live k zero s e h = meets-pure E _ none s (h, tt, refl)
+  meets-pop_live k zero s e h = meets-pure E _ None s (h, tt, refl)
   meets-pop_live k (suc n) s e h =
       meets-bind E (λ e t. Popped k n e t × (t.tally.faces ≡ s.tally.faces)) _ _ _ s (meets-pop_entry k n s e h) λ a t p.
       meets-look E _ _ t (meets-branch E _ _ _ _ t
-      (λ z. meets-pure E _ (some a) t (p.0.0, (p.0.2, eqb-true _ _ z), p.1))
+      (λ z. meets-pure E _ (Some a) t (p.0.0, (p.0.2, eqb-true _ _ z), p.1))
       (λ _. meets-map E (λ o t' q. (q.0, q.1, q.2 ∙ p.1)) (meets-pop_live k n t p.0.1 p.0.0)))
 
   -- ---- a visit
 
-  pub visited : (k : ℕ) (s : State) (i : ℕ) (p : Vertex) → k ≤ 100 → Ready J f k s → IsLive (some (record { face = i; key = lib.Ieee.nan })) s → s.tally.vertices < room_for the_vertices s.lists
+  pub visited : (k : ℕ) (s : State) (i : ℕ) (p : Vertex) → k ≤ 100 → Ready J f k s → IsLive (Some (record { face = i; key = lib.Ieee.nan })) s → s.tally.vertices < room_for the_vertices s.lists
       → Visited J f k s.tally.vertices i (with_vertex s p)
   visited k s i p l h a room =
       let x = h.sound in
@@ -109,7 +110,7 @@ module _ (J : State → Type 0) (K : Keeps J) (f : ℕ) (w : World) where
     pub grown : Grown J f k s
     pub best_in : b.face < s.tally.faces
 
-  pub meets-visit : (k : ℕ) (tol : Float) (b : Best) (e : Entry) (s : State) → k ≤ 100 → Best-ready k b s → IsLive (some e) s
+  pub meets-visit : (k : ℕ) (tol : Float) (b : Best) (e : Entry) (s : State) → k ≤ 100 → Best-ready k b s → IsLive (Some e) s
       → Meets (λ b1 t. Best-grown k b1 t) E (visit w tol b e s)
   unfolding visit settle
   meets-visit k tol b e s l hb a =
@@ -148,8 +149,8 @@ module _ (J : State → Type 0) (K : Keeps J) (f : ℕ) (w : World) where
   answer-ready Q k why y o i s l h = meets-look E Q _ s (meets-stop E Q _ s (end-ready k _ s l h y o))
 
   pub meets-visit_if : (k : ℕ) (tol : Float) (b : Best) (o : Option Entry) (s : State) → k ≤ 100 → Best-ready k b s → IsLive o s → Meets (λ b1 t. Best-grown k b1 t) E (visit_if w tol b o s)
-  meets-visit_if k tol b none s l h a = answer-ready _ k heap_empty tt refl _ s (omega arith) h.ready
-  meets-visit_if k tol b (some e) s l h a = meets-visit k tol b e s l h a
+  meets-visit_if k tol b None s l h a = answer-ready _ k heap_empty tt refl _ s (omega arith) h.ready
+  meets-visit_if k tol b (Some e) s l h a = meets-visit k tol b e s l h a
 
   -- the expansion is counted
   pub meets-complete : (k : ℕ) (b : Best) (s : State) → Best-grown k b s → Meets (λ _ t. Best-ready (suc k) b t) E (complete s)

@@ -9,7 +9,8 @@ use lib.Seq.{length-sets}
 use lib.Dec.{ltb, eqb}
 use lib.Ieee.{Float}
 use Rattle.shape.specs.declared.vertex.Vertex.{Vertex}
-use Rattle.heap.specs.Heap.{Heap, Entry, heap, entry_at, put as put_entry, swap, less, rise_in, rise, placed, greater, sink_in, sink, pushed, cleared, settled, popped}
+use Rattle.heap.specs.declared.Entry.{Entry}
+use Rattle.heap.specs.Heap.{Heap, heap, entry_at, put as put_entry, swap, less, rise_in, rise, placed, greater, sink_in, sink, pushed, cleared, settled, popped}
 use Rattle.epa_polytope.proofs.Moves.{Keeps, with_link, with_pass, with_face, left}
 use Rattle.epa_polytope.specs.Start.{Walk, World, VoronoiSimplex, exchanged}
 use Rattle.epa_polytope.specs.Expansion.{blank, clear_edges, delete}

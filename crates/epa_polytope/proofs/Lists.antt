@@ -7,10 +7,8 @@ use native.Mathlib.Numerals.{add-one}
 use native.Mathlib.Omega.{arith}
 use lib.ListN.{length, get_or, set}
 use lib.Seq.{sets}
-use lib.Ieee.{Float, Format, nan, binary32, binary64, div, of_bits}
-use Rattle.epa_polytope.specs.Stores.{one_if_zero}
+use lib.Ieee.{Float}
 use Rattle.epa_polytope.specs.Expansion.{blank}
-use Rattle.epa_polytope.specs.Stores.{live_to}
 
 -- what is read past the end
 pub past {ℓ} : {A : Type ℓ} (l : List A) (i : ℕ) (d : A) → length l ≤ i → d ≡ get_or l i d
@@ -23,13 +21,6 @@ pub get_d_any : (l : List ℕ) (i a b : ℕ) → i < length l → get_or l i a �
 get_d_any [] i a b h = absurd (not-suc-le-zero h)
 get_d_any (x ∷ l) zero a b h = refl
 get_d_any (x ∷ l) (suc i) a b h = get_d_any l i a b (le_of_suc-le-suc h)
-
--- three stores in a row, as the code writes them and as `sets` does
-pub three-sets {ℓ} : {A : Type ℓ} (l : List A) (i : ℕ) (a b c : A) → set (set (set l i a) (i + 1) b) (i + 2) c ≡ sets l i (a ∷ b ∷ c ∷ [])
-three-sets l i a b c =
-    let e1 : i + 1 ≡ suc i = omega arith in
-    let e2 : i + 2 ≡ suc (suc i) = omega arith in
-    rw (e1, e2)
 
 -- one list after another
 pub sets-append {ℓ} : {A : Type ℓ} (l : List A) (i : ℕ) (xs ys : List A) → sets (sets l i xs) (i + length xs) ys ≡ sets l i (xs ++ ys)
@@ -45,12 +36,6 @@ next_one c = omega arith
 pub next-two : (c : ℕ) → (c % 3 + 2) % 3 ≡ (c + 2) % 3
 next-two c = omega arith
 
--- 0.0 / 0.0, as the code writes a NaN
-pub no_number : (f : Format) → div f (of_bits f 0) (of_bits f 0) ≡ nan
-unfolding div of_bits
-no_number binary32 = refl
-no_number binary64 = refl
-
 -- two and three vectors in a row
 pub sets-two : (l : List Float) (i : ℕ) (a b c d e f : Float) → sets (sets l i (a ∷ b ∷ c ∷ [])) (i + 3) (d ∷ e ∷ f ∷ []) ≡ sets l i (a ∷ b ∷ c ∷ d ∷ e ∷ f ∷ [])
 sets-two l i a b c d e f = sets-append l i (a ∷ b ∷ c ∷ []) (d ∷ e ∷ f ∷ [])
@@ -64,28 +49,3 @@ sets-three l i a b c d e f g h k =
 pub blank-next : (i : ℕ) (l : List ℕ) → blank (i + 1) l ≡ set (set (blank i l) (i * 2) 0) (i * 2 + 1) 0
 unfolding blank
 blank-next i l = rw (add-one i)
-
--- one face more
-one-most : (x : ℕ) → one_if_zero x ≤ 1
-one-most zero = omega arith
-one-most (suc x) = omega arith
-
-pub live-most : (n : ℕ) (d : List ℕ) → live_to n d ≤ n
-unfolding live_to
-live-most zero d = omega arith
-live-most (suc n) d = omega (arith, live-most n d, one-most (get_or d n 1))
-
-one-zero : (x : ℕ) → x ≡ 0 → one_if_zero x ≡ 1
-one-zero x e = rw e
-
-one-other : (x : ℕ) → (x ≡ 0 → ⊥) → one_if_zero x ≡ 0
-one-other zero h = absurd (h refl)
-one-other (suc x) h = refl
-
-pub live_more : (i : ℕ) (d : List ℕ) (n : ℕ) {m : ℕ} → get_or d i 1 ≡ 0 → n ≡ live_to i d → m ≡ n + 1 → m ≡ live_to (i + 1) d
-unfolding live_to
-live_more i d n z e q = rw (add-one i) (omega (arith, one-zero _ z))
-
-pub live_same : (i : ℕ) (d : List ℕ) (n : ℕ) {m : ℕ} → (get_or d i 1 ≡ 0 → ⊥) → n ≡ live_to i d → m ≡ n → m ≡ live_to (i + 1) d
-unfolding live_to
-live_same i d n z e q = rw (add-one i) (omega (arith, one-other _ z))

@@ -1,12 +1,13 @@
 -- The expansions one after another, told of the lists and the answers that the code leaves: at each turn what is left of them does the same as all did at first, and the stores are those of a run,
 -- so that the heap's entries have a place each and no count is above 101. For any world. Assumes nothing.
 use mathlib.Core.Path.{◌≡◌, refl, sym, ap, subst, ◌∙◌}
-use mathlib.Core.Option.{Option}
-use Prim.Native.Nat.{ℕ, suc, ◌-◌, ◌<◌, ◌≤◌}
+use Rattle.std.specs.Prelude.{Option, Some, None, Result, Ok, Err}
+use Prim.Native.Nat.{ℕ, suc, ◌+◌, ◌-◌, ◌<◌, ◌≤◌}
+use native.Mathlib.Numerals.{add-one}
 use native.Mathlib.Omega.{arith}
 use lib.Ieee.{Float}
 use Rattle.simplex.specs.declared.voronoi_simplex.VoronoiSimplex.{VoronoiSimplex}
-use Rattle.heap.specs.Heap.{Entry}
+use Rattle.heap.specs.declared.Entry.{Entry}
 use Rattle.epa_polytope.specs.declared.types.Best.{Best}
 use Rattle.epa_polytope.specs.declared.types.End.{End}
 use Rattle.epa_polytope.specs.declared.types.FaceId.{FaceId}
@@ -19,14 +20,14 @@ use Rattle.epa_polytope.specs.Steps.{Out, onward, Act, next, answer_of, answer, 
 use Rattle.epa_polytope.specs.Start.{World, format_of}
 use Rattle.epa_polytope.specs.Run.{pop_live, visit, visit_if, complete, iterate, loop, expansions}
 use Rattle.epa_polytope.specs.Demand3.{opened, one_more, run_to}
-use Rattle.epa_polytope.specs.Promises.{Does, visit_out, finish_out, entry_of}
+use Rattle.epa_polytope.specs.Promises.{Does, finish, visit_out, finish_out, entry_of}
 use Rattle.epa_polytope.proofs.Start.{empty-lent, meets-run_to}
 use Rattle.epa_polytope.proofs.Lengths.{SameLength, same-rooms, same-moves, long-itself}
 use Rattle.epa_polytope.proofs.Counted.{done-iterate}
 use Rattle.epa_polytope.proofs.Rule.{in-range}
-use Rattle.epa_polytope.specs.declared.types.MaybeFaceId.{MaybeFaceId}
+use Rattle.epa_polytope.specs.declared.types.Finish.{Finish}
 use Rattle.epa_polytope.specs.declared.types.Popped.{Popped}
-use Rattle.epa_polytope.specs.Code.{pop_out, maybe_entry, Early, completed_of, CanExpand, first_best, Started}
+use Rattle.epa_polytope.specs.Code.{pop_out, maybe_entry, completed_of, CanExpand, first_best, Started}
 
 -- ---- the next live face is popped and expanded
 
@@ -34,36 +35,40 @@ use Rattle.epa_polytope.specs.Code.{pop_out, maybe_entry, Early, completed_of, C
 abbrev completing : Best → Act Best
 completing b = complete >> pure b
 
-completed-out : (l : Lists) (r : Visited) → visit_out l (completed_of r) ≡ next (visit_out l r) completing
+completed-out : (l : Lists) (r : Result Visited Finish) → visit_out l (completed_of r) ≡ next (visit_out l r) completing
 unfolding complete pure look put ◌>>=◌ ◌>>◌
-completed-out l (Visited.Next b c) = refl
-completed-out l (Visited.Ended e c) = refl
+completed-out l (Ok v) = refl
+completed-out l (Err x) = refl
 
 module _ (w : World) (tol : Float) (b : Best) {l l1 : Lists} {c : Tally} {x : Popped} (g : Does pop_out (pop_live c.heap) l c l1 x) where
   -- what is done with the entry that was popped
-  pops : {y : MaybeFaceId} → x.entry ≡ y → next (visit_if w tol b (maybe_entry y) (state_of l1 x.tally)) completing ≡ iterate w tol b (state_of l c)
+  pops : {y : Option FaceId} → x.entry ≡ y → next (visit_if w tol b (maybe_entry y) (state_of l1 x.tally)) completing ≡ iterate w tol b (state_of l c)
   unfolding iterate look ◌>>=◌
   pops t =
       ap (λ (o : Out (Option Entry)). next o (λ e s. next (visit_if w tol b e s) completing))
-      (subst (λ (z : MaybeFaceId). onward (maybe_entry z) (state_of l1 x.tally) ≡ pop_live c.heap (state_of l c)) t g.same)
+      (subst (λ (z : Option FaceId). onward (maybe_entry z) (state_of l1 x.tally) ≡ pop_live c.heap (state_of l c)) t g.same)
 
-  pub none_left : {e : End} → x.entry ≡ MaybeFaceId.None → e ≡ answer_of (format_of w) HeapEmpty l1 b.face → Does visit_out (iterate w tol b) l c l1 (Visited.Ended e x.tally)
+  pub none_left : {e : End} → x.entry ≡ None → e ≡ answer_of (format_of w) HeapEmpty l1 b.face → Does visit_out (iterate w tol b) l c l1 (Err (finish e x.tally))
   unfolding answer stop look ◌>>=◌
   none_left t q = record { same = rw q (pops t) }
 
-  module _ {i : FaceId} {l2 : Lists} {r : Visited} (t : x.entry ≡ MaybeFaceId.Some i) (h : Does visit_out (visit w tol b (entry_of i)) l1 x.tally l2 r) where
-    pub iterated : Does visit_out (iterate w tol b) l c l2 (completed_of r)
-    iterated = record { same = completed-out l2 r ∙ ap (λ (o : Out Best). next o completing) h.same ∙ pops t }
+  module _ {i : FaceId} {l2 : Lists} {r : Result Visited Finish} (t : x.entry ≡ Some i) (h : Does visit_out (visit w tol b (entry_of i)) l1 x.tally l2 r) where
+    iterated : {y : Result Visited Finish} → r ≡ y → Does visit_out (iterate w tol b) l c l2 (completed_of y)
+    iterated {y} q = record { same = completed-out l2 y ∙ ap (λ (o : Out Best). next o completing) (rw q at h.same) ∙ pops t }
+
+    pub iterated-ends : {f : Finish} → r ≡ Err f → Does visit_out (iterate w tol b) l c l2 (Err f)
+    iterated-ends q = iterated q
+
+    pub iterated-on : {v z : Visited} → r ≡ Ok v → Ok z ≡ completed_of (Ok v) → Does visit_out (iterate w tol b) l c l2 (Ok z)
+    iterated-on q is = rw is (iterated q)
 
   -- an expansion does not count itself
-  early : (l2 : Lists) (r : Visited) → c.done ≤ 100 → Does visit_out (iterate w tol b) l c l2 (completed_of r) → Early r
-  early l2 (Visited.Ended e y) few q = tt
-  early l2 (Visited.Next b1 y) few q =
-      let h = (rw (sym q.same) at (done-iterate w c.done tol b (state_of l c) refl)).held in
-      omega (arith, few, h)
-
-  pub visited-early : {i : FaceId} {l2 : Lists} {r : Visited} → c.done ≤ 100 → x.entry ≡ MaybeFaceId.Some i → Does visit_out (visit w tol b (entry_of i)) l1 x.tally l2 r → Early r
-  visited-early {i} {l2} {r} few t h = early l2 r few (iterated t h)
+  pub visited-early : {i : FaceId} {l2 : Lists} {r : Result Visited Finish} {v : Visited} → c.done ≤ 100 → x.entry ≡ Some i → Does visit_out (visit w tol b (entry_of i)) l1 x.tally l2 r → r ≡ Ok v
+      → v.tally.done ≤ 100
+  visited-early few t h q =
+      let does = iterated t h q in
+      let held = (rw (sym does.same) at (done-iterate w c.done tol b (state_of l c) refl)).held in
+      omega (arith, few, held)
 
 -- ---- the stores of a run
 
@@ -95,39 +100,39 @@ can-expand {w} {tol} {k} {b} l c few h =
 
 -- ---- the loop
 
-pub record ExpandLoop (w : World) (tol : Float) (l0 : Lists) (c0 : Tally) (l : Lists) (c : Tally) (b : Best) (left : ℕ) : Type 0 where
-  pub within : left ≤ 101
-  pub reached : Reached w tol (101 - left) b (state_of l c)
-  pub goes_on : loop w tol left b (state_of l c) ≡ expansions w tol (state_of l0 c0)
+-- after i turns: the lists are l0 at first, and l now
+pub record ExpandLoop (w : World) (tol : Float) (l0 : Lists) (c0 : Tally) (l : Lists) (c : Tally) (b : Best) (i : ℕ) : Type 0 where
+  pub within : i ≤ 101
+  pub reached : Reached w tol i b (state_of l c)
+  pub goes_on : loop w tol (101 - i) b (state_of l c) ≡ expansions w tol (state_of l0 c0)
 
 from_first : (w : World) (tol : Float) (l : Lists) (c : Tally) → loop w tol 101 (first_best (format_of w) l.heap_ids) (state_of l c) ≡ expansions w tol (state_of l c)
 unfolding expansions look ◌>>=◌
 from_first w tol l c = refl
 
-pub loop-starts : {w : World} {tol : Float} (l : Lists) (c : Tally) {b : Best} → Started w tol (state_of l c) → b ≡ first_best (format_of w) l.heap_ids → ExpandLoop w tol l c l c b 101
+pub loop-starts : {w : World} {tol : Float} (l : Lists) (c : Tally) {b : Best} → Started w tol (state_of l c) → b ≡ first_best (format_of w) l.heap_ids → ExpandLoop w tol l c l c b 0
 loop-starts {w} {tol} l c h e = record { within = omega arith; reached = rw e (reached-first l c h); goes_on = rw e (from_first w tol l c) }
 
-module _ {w : World} {tol : Float} {l0 : Lists} {c0 : Tally} {l : Lists} {c : Tally} {b : Best} {left : ℕ} (h : ExpandLoop w tol l0 c0 l c b left) where
-  pub turn-ready : 0 < left → CanExpand c l.heap_ids l.heap_keys
+module _ {w : World} {tol : Float} {l0 : Lists} {c0 : Tally} {l : Lists} {c : Tally} {b : Best} {i : ℕ} (h : ExpandLoop w tol l0 c0 l c b i) where
+  pub turn-ready : i < 101 → CanExpand c l.heap_ids l.heap_keys
   turn-ready more = can-expand l c (omega arith) h.reached
 
-  pub loop-done : {e : End} → left ≤ 0 → e ≡ answer_of (format_of w) EnoughExpansions l b.face → Does finish_out (expansions w tol) l0 c0 l (record { end = e; tally = c })
+  pub loop-done : {e : End} → 101 ≤ i → e ≡ answer_of (format_of w) EnoughExpansions l b.face → Does finish_out (expansions w tol) l0 c0 l (finish e c)
   unfolding loop answer stop look ◌>>=◌
   loop-done z q =
-      let none : left ≡ 0 = omega arith in
+      let none : 101 - i ≡ 0 = omega arith in
       record { same = rw q (rw none at h.goes_on) }
 
-  module _ {l' : Lists} {r : Visited} (more : 0 < left) (g : Does visit_out (iterate w tol b) l c l' r) where
-    one-turn : {y : Visited} → r ≡ y → next (visit_out l' y) (loop w tol (left - 1)) ≡ expansions w tol (state_of l0 c0)
+  module _ {l' : Lists} {r : Result Visited Finish} (more : i < 101) (g : Does visit_out (iterate w tol b) l c l' r) where
+    one-turn : {y : Result Visited Finish} → r ≡ y → next (visit_out l' y) (loop w tol (101 - (i + 1))) ≡ expansions w tol (state_of l0 c0)
     unfolding loop ◌>>=◌
     one-turn t =
-        let e : left ≡ suc (left - 1) = omega arith in
-        ap (λ (o : Out Best). next o (loop w tol (left - 1))) (rw t at g.same) ∙ (rw e at h.goes_on)
+        let e : 101 - i ≡ suc (101 - (i + 1)) = omega arith in
+        ap (λ (o : Out Best). next o (loop w tol (101 - (i + 1)))) (rw t at g.same) ∙ (rw e at h.goes_on)
 
-    pub loop-ends : {e : End} {x : Tally} → r ≡ Visited.Ended e x → Does finish_out (expansions w tol) l0 c0 l' (record { end = e; tally = x })
+    pub loop-ends : {x : Finish} → r ≡ Err x → Does finish_out (expansions w tol) l0 c0 l' x
     loop-ends t = record { same = one-turn t }
 
-    pub loop-turns : {b1 : Best} {x : Tally} → r ≡ Visited.Next b1 x → ExpandLoop w tol l0 c0 l' x b1 (left - 1)
-    loop-turns {b1} {x} t =
-        let e : 101 - (left - 1) ≡ suc (101 - left) = let few = h.within in omega arith in
-        record { within = let few = h.within in omega arith; reached = rw e (reached-next h.reached (sym (rw t at g.same))); goes_on = one-turn t }
+    pub loop-turns : {x : Visited} → r ≡ Ok x → ExpandLoop w tol l0 c0 l' x.tally x.best (i + 1)
+    loop-turns t =
+        record { within = omega arith; reached = rw (add-one i) (reached-next h.reached (sym (rw t at g.same))); goes_on = one-turn t }

@@ -3,13 +3,13 @@
 use mathlib.Core.Path.{◌≡◌, refl, sym, ◌∙◌}
 use mathlib.Core.List.{List}
 use mathlib.Core.Bool.{Bool}
-use mathlib.Core.Option.{Option, none, some}
+use Rattle.std.specs.Prelude.{Option, None, Some}
 use Prim.Native.Nat.{ℕ, zero, suc, ◌+◌, ◌*◌, ◌≤◌}
 use native.Mathlib.Nat.{mod-eq_of_lt}
 use native.Mathlib.Omega.{arith}
 use lib.Ieee.{Float}
 use Rattle.shape.specs.declared.vertex.Vertex.{Vertex}
-use Rattle.heap.specs.Heap.{Entry}
+use Rattle.heap.specs.declared.Entry.{Entry}
 use Rattle.epa_polytope.specs.Stores.{Lists, State, Three, state_of, none_yet, Made, live_to, live, vertex_at}
 use Rattle.epa_polytope.specs.Steps.{End, Out, onward, ended, Nil, ◌>>◌, put, Found, converged, stuck, heap_empty, enough_expansions, new_face_nearer, answer, push_vertex, push_face, Lost, enqueue, queue_face}
 use Rattle.epa_polytope.specs.Start.{World, VoronoiSimplex, push_points, second, bootstrap, first_far, start_vertices, exchange, four_faces, queue_start, queue_four, start_four, third, two_faces, start_two, start_faces, begin}
@@ -60,8 +60,8 @@ module _ (B : ℕ) where
   few-points x (suc n) i s h = meets-then E F F _ _ s (few-vertex _ s h) λ _ t h1. few-points x n (i + 1) t h1
 
   few-second : (v : Vertex) (o : Option Vertex) (s : State) → Few B s → Meets F E (second v o s)
-  few-second v none s h = meets-stop E F _ s h
-  few-second v (some p) s h = few-vertex p s h
+  few-second v None s h = meets-stop E F _ s h
+  few-second v (Some p) s h = few-vertex p s h
 
   module _ (w : World) where
     few-vertices : (x : VoronoiSimplex) (s : State) → Few B s → Meets F E (start_vertices w x s)
@@ -130,8 +130,8 @@ module _ (B : ℕ) where
     few-delete i t h = meets-look E F _ t (meets-put E F _ t (omega (arith, h, live-set t.tally.faces t.lists.deleted i)))
 
     few-of : (g : Carried) (o : Option Entry) (t : State) → Few B t → Meets F E (up_to_pass_of w g o t)
-    few-of g none t h = few-answer F heap_empty _ t h
-    few-of g (some e) t h =
+    few-of g None t h = few-answer F heap_empty _ t h
+    few-of g (Some e) t h =
         meets-look E F _ t
         (meets-then E F F _ _ t (few-vertex _ t h) λ _ t1 h1.
         meets-then E F F _ _ t1 (meets-do_if E F _ _ t1 (λ _. few-answer F converged _ t1 h1) (λ _. h1)) λ _ t2 h2.

@@ -4,7 +4,8 @@ use mathlib.Core.Path.{◌≡◌}
 use Prim.Native.Nat.{ℕ, suc, ◌+◌, ◌<◌, ◌≤◌}
 use lib.ListN.{set}
 use Rattle.shape.specs.declared.vertex.Vertex.{Vertex}
-use Rattle.heap.specs.Heap.{Entry, pushed, popped}
+use Rattle.heap.specs.declared.Entry.{Entry}
+use Rattle.heap.specs.Heap.{pushed, popped}
 use Rattle.epa_polytope.specs.Stores.{Made, Three, State, state_of, with_vertices, with_face_ids, with_face_floats, with_deleted, with_heap, vertex_count, face_count, heap_count, room_for, the_vertices, the_faces, the_edges, the_heap}
 use Rattle.epa_polytope.specs.Stores.{put_vertex, put_face, put_made, linked_in, heap_of}
 use Rattle.epa_polytope.specs.Silhouette.{facing, recorded_of}

@@ -3,17 +3,17 @@
 use mathlib.Core.Path.{◌≡◌, refl, ap}
 use mathlib.Core.Bool.{Bool, true, false, cond}
 use native.Mathlib.Omega.{arith}
-use mathlib.Core.Option.{Option, none, some}
+use Rattle.std.specs.Prelude.{Option, None, Some}
 use Prim.Native.Nat.{ℕ, zero, suc, ◌+◌}
 use lib.Ieee.{Float}
 use Rattle.shape.specs.declared.vertex.Vertex.{Vertex}
-use Rattle.heap.specs.Heap.{Entry}
+use Rattle.heap.specs.declared.Entry.{Entry}
 use Rattle.epa_polytope.specs.Start.{Walk, recursive, plain, World, VoronoiSimplex, first_far, queue_start, four_faces, queue_four, start_four, third, two_faces, start_two, second, bootstrap, push_points, start_vertices, start_faces, begin, exchange}
 use Rattle.epa_polytope.specs.Stores.{Store, the_vertices, the_faces, the_edges, the_heap, the_pending, State, Made, live_to, live, vertex_at, point_at, Lists, Three, state_of, none_yet}
 use Rattle.epa_polytope.specs.Expansion.{Expansion, delete, pass_by, passed_if, silhouette, link, queue_new, grow_at, grow, grow_all, clear_edges, close_ring, regrow, expand}
 use Rattle.epa_polytope.specs.Run.{Best, pop_entry, pop_live, settle, visit, visit_if, complete, iterate, loop, expansions, epa, run}
 use Rattle.epa_polytope.specs.Steps.{Found, Lost, Site, End, answers, nothing, panics, no_room, Act, ended, Nil, ◌>>=◌, ◌>>◌, look, put, pure, ok, stop_if, do_if, branch, push_vertex, push_face, enqueue, queue_face, answer_of, answer}
-use Rattle.epa_polytope.specs.Silhouette.{WalkAnswer, Done, NoRoom}
+use Rattle.epa_polytope.specs.Silhouette.{WalkAnswer, Ok, Err}
 use Rattle.epa_polytope.proofs.Moves.{pass_from, with_pass}
 use Rattle.epa_polytope.proofs.Steps.{Meets, goes, ends, meets-bind, meets-then, meets-look, meets-put, meets-pure, meets-ok, meets-stop, meets-stop_if, meets-do_if, meets-branch, meets-link, meets-face, meets-enqueue, meets-queue, meets-vertex}
 
@@ -65,8 +65,8 @@ module _ (w : World) where
   still-points x (suc n) i s h = meets-then Quiet Still _ _ _ s (still-vertex _ s h) λ _ t h1. still-points x n (i + 1) t h1
 
   still-second : (v : Vertex) (o : Option Vertex) (s : State) → Unbegun s → Meets Still Quiet (second v o s)
-  still-second v none s h = meets-stop Quiet _ _ s tt
-  still-second v (some p) s h = still-vertex p s h
+  still-second v None s h = meets-stop Quiet _ _ s tt
+  still-second v (Some p) s h = still-vertex p s h
 
   still-bootstrap : (s : State) → Unbegun s → Meets Still Quiet (bootstrap w s)
   unfolding bootstrap
@@ -188,7 +188,7 @@ module _ (w : World) where
 
   calm-pop_live : (n : ℕ) → Calm (pop_live n)
   unfolding pop_live
-  calm-pop_live zero = calm-pure none
+  calm-pop_live zero = calm-pure None
   calm-pop_live (suc n) = calm_bind _ _ (calm-pop_entry n) λ e. calm-look _ λ s. calm_branch _ _ _ (calm-pure _) (calm-pop_live n)
 
   calm-delete : (i : ℕ) → Calm (delete i)
@@ -196,10 +196,10 @@ module _ (w : World) where
   calm-delete i = calm-look _ λ s. calm_put _
 
   quiet-passed : (b : Bool) (a : WalkAnswer) (t : State) → (b ≡ true → w.walk_by ≡ plain) → Meets Any Quiet (passed_if b a t)
-  quiet-passed true (Done n) t h = ends (h refl)
-  quiet-passed true NoRoom t h = ends (h refl)
-  quiet-passed false (Done n) t h = goes tt
-  quiet-passed false NoRoom t h = ends tt
+  quiet-passed true (Ok n) t h = ends (h refl)
+  quiet-passed true (Err _) t h = ends (h refl)
+  quiet-passed false (Ok n) t h = goes tt
+  quiet-passed false (Err _) t h = ends tt
 
   -- the recursive walk holds no question
   short-by-plain : (y : Walk) (s : State) (point i : ℕ) → (pass_from y w.numbers s point i).short ≡ true → y ≡ plain
@@ -261,8 +261,8 @@ module _ (w : World) where
       (calm-then _ _ (calm-expand _) (calm-pure _))))
 
   calm-turn_if : (tol : Float) (b : Best) (o : Option Entry) → Calm (visit_if w tol b o)
-  calm-turn_if tol b none = calm-answer _ _
-  calm-turn_if tol b (some e) = calm-turn tol b e
+  calm-turn_if tol b None = calm-answer _ _
+  calm-turn_if tol b (Some e) = calm-turn tol b e
 
   calm-next_turn : (tol : Float) (b : Best) → Calm (iterate w tol b)
   unfolding iterate complete

@@ -1,10 +1,10 @@
 -- A silhouette pass of a run: what the stores are before it, and what it leaves. Assumes nothing.
 use mathlib.Core.Path.{◌≡◌, refl, subst}
 use mathlib.Core.Bool.{Bool, true, false}
-use mathlib.Core.Option.{Option, none, some}
+use Rattle.std.specs.Prelude.{Option, None, Some}
 use Prim.Native.Nat.{ℕ, suc, ◌+◌, ◌-◌, ◌*◌, ◌%◌, ◌<◌, ◌≤◌, max}
 use native.Mathlib.Omega.{arith}
-use Rattle.heap.specs.Heap.{Entry}
+use Rattle.heap.specs.declared.Entry.{Entry}
 use Rattle.epa_polytope.specs.Silhouette.{with_missed, WalkAnswer, recorded_of}
 use Rattle.epa_polytope.specs.PlainWalk.{Walking}
 use Rattle.epa_polytope.specs.Start.{Walk, World}
@@ -21,7 +21,7 @@ use Rattle.epa_polytope.proofs.Growth.{Ready, Visited, Deleted, Growing, linked,
 use Rattle.epa_polytope.proofs.Iterations.{IsLive, meets-pop_live, visited}
 use Rattle.epa_polytope.proofs.Start.{nothing-kept}
 use Rattle.epa_polytope.specs.Stores.{the_edges}
-use Rattle.epa_polytope.specs.Silhouette.{Done, NoRoom}
+use Rattle.epa_polytope.specs.Silhouette.{Ok, Err}
 
 -- no fact besides is carried along
 abbrev pub J : State → Type 0
@@ -60,10 +60,10 @@ pass-law y w p i s a l =
 
     left : (b : Bool) (t : Walking) (a : WalkAnswer) → t.walk.missed + 2 * live_to s.tally.faces t.walk.deleted ≤ s.tally.missed + 3 + 2 * live s
         → live_to s.tally.faces t.walk.deleted ≤ live s → asked_of R a + live_to s.tally.faces t.walk.deleted ≤ live s + 3 → Passed s (stores_left (passed_if b a (after_pass s t (recorded_of R a))))
-    left true t (Done n) x f e = by t n x f e
-    left true t NoRoom x f e = by t R x f (omega (arith, e))
-    left false t (Done n) x f e = by t n x f e
-    left false t NoRoom x f e = by t R x f (omega (arith, e))
+    left true t (Ok n) x f e = by t n x f e
+    left true t (Err _) x f e = by t R x f (omega (arith, e))
+    left false t (Ok n) x f e = by t n x f e
+    left false t (Err _) x f e = by t R x f (omega (arith, e))
 
 -- whatever ends the run
 abbrev Ever : End → State → Type 0
@@ -79,8 +79,8 @@ module _ (f : ℕ) (w : World) (k : ℕ) (l : k ≤ 100) where
   answers-ever Q why i t = meets-look Ever Q _ t (meets-stop Ever Q _ t tt)
 
   meets-of : (g : Carried) (o : Option Entry) (t : State) → Ready J f k t → IsLive o t → Meets (λ p u. Passable f k p u) Ever (up_to_pass_of w g o t)
-  meets-of g none t h a = answers-ever _ heap_empty _ t
-  meets-of g (some e) t h a =
+  meets-of g None t h a = answers-ever _ heap_empty _ t
+  meets-of g (Some e) t h a =
       let T : State → Type 0 = λ u. Visited J f k t.tally.vertices e.face u in
       meets-look Ever _ _ t
       (meets-then Ever (λ _ u. T u) _ _ _ t (meets-vertex Ever _ _ t (λ _. tt) (λ room. visited J nothing-kept f w k t e.face _ l h a room)) λ _ t1 u1.

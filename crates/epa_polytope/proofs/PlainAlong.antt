@@ -8,7 +8,7 @@ use lib.ListN.{length, get_or, set, length-set}
 use lib.Seq.{get_or-set_other}
 use lib.Dec.{eqb, ltb}
 use borrow.Author.Tests.{ltb-true, ltb-false}
-use Rattle.epa_polytope.specs.Silhouette.{Question, NoRoom, Mesh, Walked, facing, noted}
+use Rattle.epa_polytope.specs.Silhouette.{Question, full, Mesh, Walked, facing, noted}
 use Rattle.epa_polytope.specs.PlainWalk.{Walking, walking, put_if, put_in, question_at, without, answer_if, answer_question, turn, turns, plain_walk, plain_pass}
 use Rattle.epa_polytope.specs.Bounds.{NeighboursIn}
 use Rattle.epa_polytope.specs.Same.{Alike}
@@ -44,8 +44,8 @@ pub record FullPaired (N R R' P P' j : ℕ) (s t : Walking) : Type 0 where
   pub pending : Alike (j * 2) s.pending t.pending
 
 pub data PlainAlong (N R R' P P' : ℕ) (s t : Walking) : Type 0 where
-  first_edge : s.short ≡ false → s.walk.answer ≡ NoRoom → R < R' → PlainAlong N R R' P P' s t
-  second_edge : t.short ≡ false → t.walk.answer ≡ NoRoom → R' < R → PlainAlong N R R' P P' s t
+  first_edge : s.short ≡ false → s.walk.answer ≡ full → R < R' → PlainAlong N R R' P P' s t
+  second_edge : t.short ≡ false → t.walk.answer ≡ full → R' < R → PlainAlong N R R' P P' s t
   both_edge : (j : ℕ) → FullPaired N R R' P P' j s t → s.short ≡ false → t.short ≡ false → PlainAlong N R R' P P' s t
   placing : Placing N R R' P P' s t → PlainAlong N R R' P P' s t
 

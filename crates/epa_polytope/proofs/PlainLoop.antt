@@ -8,7 +8,7 @@ use lib.ListN.{length, get_or, set}
 use lib.Dec.{eqb, ltb}
 use borrow.Author.Tests.{eq-eqb, ne_eqb, lt-ltb, le-ltb}
 use Rattle.epa_polytope.specs.Stores.{Lists}
-use Rattle.epa_polytope.specs.Silhouette.{Question, WalkAnswer, Done, NoRoom, Mesh, Walked, walked, Facing, facing, with_missed, facing_from, pair_put, noted_if, noted, pass}
+use Rattle.epa_polytope.specs.Silhouette.{Question, WalkAnswer, Ok, full, Mesh, Walked, walked, Facing, facing, with_missed, facing_from, pair_put, noted_if, noted, pass}
 use Rattle.epa_polytope.specs.Start.{Walk, recursive, plain}
 use Rattle.epa_polytope.specs.Expansion.{pass_by}
 use Rattle.epa_polytope.specs.PlainWalk.{Walking, walking, walking_by, PlainSoFar, put_if, put_in, question_at, without, answer_if, answer_question, turn, plain_walk, plain_pass}
@@ -52,9 +52,9 @@ module _ (m : Mesh) (s : Walking) (n : ℕ) (q : Question) where
   answer-dead z = sym (by_tests (ne_eqb _ _ z) refl)
 
   module _ (z : get_or s.walk.deleted q.face 1 ≡ 0) where
-    pub answer-edge : m.seen q ≡ false → (t : Walked) → t ≡ noted (walked s.walk.deleted s.walk.edges s.walk.missed (Done n)) n q
+    pub answer-edge : m.seen q ≡ false → (t : Walked) → t ≡ noted (walked s.walk.deleted s.walk.edges s.walk.missed (Ok n)) n q
         → walking t s.pending s.held s.short ≡ answer_question m s n q
-    answer-edge e t is = ap (λ (w : Walked). walking w s.pending s.held s.short) (is ∙ noted-any s.walk n q (Done n)) ∙ sym (by_tests (eq-eqb _ _ z) e)
+    answer-edge e t is = ap (λ (w : Walked). walking w s.pending s.held s.short) (is ∙ noted-any s.walk n q (Ok n)) ∙ sym (by_tests (eq-eqb _ _ z) e)
 
     -- by the lookups that the code makes, and the states that the two puts leave
     pub answer-seen : (d1 : List ℕ) (f1 f2 : Facing) → m.seen q ≡ true → d1 ≡ set s.walk.deleted q.face 1
@@ -74,7 +74,7 @@ module _ (m : Mesh) (s : Walking) (n : ℕ) (q : Question) where
 
 -- a walk that goes on, by the three numbers that the loop carries
 abbrev pub going : List ℕ → List ℕ → List ℕ → ℕ → ℕ → ℕ → Walking
-going d e p count missed held = walking (walked d e missed (Done count)) p held false
+going d e p count missed held = walking (walked d e missed (Ok count)) p held false
 
 module _ (m : Mesh) (d e p : List ℕ) (count missed held : ℕ) (some : 0 < held) where
   takes : turn m (going d e p count missed held) ≡ answer_question m (going d e (without p (held - 1)) count missed (held - 1)) count (question_at p (held - 1))
@@ -97,7 +97,7 @@ module _ (m : Mesh) (s : Walking) where
   pub walk-short : s.short ≡ true → s ≡ plain_walk m s
   walk-short e = sym (walk-rests m s (turn-short m s e))
 
-  pub walk-full : s.walk.answer ≡ NoRoom → s ≡ plain_walk m s
+  pub walk-full : s.walk.answer ≡ full → s ≡ plain_walk m s
   walk-full e = by s.short refl
     where
       by : (b : Bool) → s.short ≡ b → s ≡ plain_walk m s
@@ -107,7 +107,7 @@ module _ (m : Mesh) (s : Walking) where
 -- ---- the loop
 
 -- what answers so many edges, and has refused no question, goes on
-pub goes : {d e p : List ℕ} (r : PlainSoFar) {n : ℕ} → r.answer ≡ Done n → r.short ≡ false → going d e p n r.missed r.held ≡ walking_by d e p r
+pub goes : {d e p : List ℕ} (r : PlainSoFar) {n : ℕ} → r.answer ≡ Ok n → r.short ≡ false → going d e p n r.missed r.held ≡ walking_by d e p r
 goes r ea eb = cc
 
 -- from s0 the loop has come to s: the lists keep their lengths, and the walk from here is the walk from there
@@ -122,14 +122,14 @@ loop-starts mesh s = record { marks = refl; room = refl; places = refl; goes_on 
 
 module _ {mesh : Lists → Mesh} {s0 s : Walking} (h : WalkLoop mesh s0 s) where
   -- no question is held
-  pub ends-empty : s.short ≡ false → {n : ℕ} → s.walk.answer ≡ Done n → s.held ≡ 0 → (k : Lists) → s ≡ plain_walk (mesh k) s0
+  pub ends-empty : s.short ≡ false → {n : ℕ} → s.walk.answer ≡ Ok n → s.held ≡ 0 → (k : Lists) → s ≡ plain_walk (mesh k) s0
   ends-empty eb ea eh k = sym (walk-rests (mesh k) s (turn-none (mesh k) s eb ea eh)) ∙ h.goes_on k
 
   module _ {s' : Walking} (t : (k : Lists) → s' ≡ turn (mesh k) s) where
     after_turn : (k : Lists) → plain_walk (mesh k) s' ≡ plain_walk (mesh k) s0
     after_turn k = ap (plain_walk (mesh k)) (t k) ∙ sym (walk_turn (mesh k) s) ∙ h.goes_on k
 
-    pub ends-full : s'.walk.answer ≡ NoRoom → (k : Lists) → s' ≡ plain_walk (mesh k) s0
+    pub ends-full : s'.walk.answer ≡ full → (k : Lists) → s' ≡ plain_walk (mesh k) s0
     ends-full e k = walk-full (mesh k) s' e ∙ after_turn k
 
     pub ends-short : s'.short ≡ true → (k : Lists) → s' ≡ plain_walk (mesh k) s0

@@ -12,7 +12,7 @@ use lib.Seq.{get_or-set_same, get_or-set_other}
 use lib.Dec.{eqb, ltb}
 use borrow.Author.Tests.{eqb-true, ltb-true, ltb-false}
 use Rattle.epa_polytope.specs.Stores.{live_to}
-use Rattle.epa_polytope.specs.Silhouette.{Question, WalkAnswer, Done, NoRoom, Mesh, Walked, with_missed, pair_put, noted, entered, recorded_of}
+use Rattle.epa_polytope.specs.Silhouette.{Question, WalkAnswer, Ok, Err, Mesh, Walked, with_missed, pair_put, noted, entered, recorded_of}
 use Rattle.epa_polytope.specs.PlainWalk.{Walking, walking, put_if, put_in, question_at, without, answer_if, answer_question, turn, turns, plain_walk, plain_pass}
 use Rattle.epa_polytope.specs.Bounds.{NeighboursIn}
 use Rattle.epa_polytope.specs.Rule.{Returned}
@@ -128,7 +128,7 @@ module _ (m : Mesh) (N : ℕ) (h : NeighboursIn N N m.ids) (w : Walked) (l0 : Li
   }
 
   -- one in hand is an edge
-  steady-note : (k n : ℕ) (s : Walking) (q : Question) → s.walk.answer ≡ Done n → Asked N q → At (suc k) s → At k (walking (noted s.walk n q) s.pending s.held s.short)
+  steady-note : (k n : ℕ) (s : Walking) (q : Question) → s.walk.answer ≡ Ok n → Asked N q → At (suc k) s → At k (walking (noted s.walk n q) s.pending s.held s.short)
   steady-note k n s q e y st =
       let R = edge_room w in
       let room : edge_room s.walk ≡ R = ap (λ (x : ℕ). x / 2) st.reached.same_room in
@@ -150,8 +150,8 @@ module _ (m : Mesh) (N : ℕ) (h : NeighboursIn N N m.ids) (w : Walked) (l0 : Li
       }
 
   as-deleted : (s : Walked) (q : Question) (a : WalkAnswer) → Recorded N s a → Recorded N (entered m s q) a
-  as-deleted s q (Done n) i = i
-  as-deleted s q NoRoom i = tt
+  as-deleted s q (Ok n) i = i
+  as-deleted s q (Err _) i = tt
 
   -- one in hand is of a face that is seen: there are two in hand then, and a live face less
   steady-enter : (k : ℕ) (s : Walking) (q : Question) → get_or s.walk.deleted q.face 1 ≡ 0 → Asked N q → At (suc k) s
@@ -236,7 +236,7 @@ module _ (m : Mesh) (N : ℕ) (h : NeighboursIn N N m.ids) (w : Walked) (l0 : Li
 
   -- ---- the walk
 
-  steady-answer : (n : ℕ) (s : Walking) (q : Question) → s.walk.answer ≡ Done n → Asked N q → At 1 s → At 0 (answer_question m s n q)
+  steady-answer : (n : ℕ) (s : Walking) (q : Question) → s.walk.answer ≡ Ok n → Asked N q → At 1 s → At 0 (answer_question m s n q)
   unfolding answer_question
   steady-answer n s q e y st = by (eqb (get_or s.walk.deleted q.face 1) 0) (m.seen q) refl
     where
@@ -253,9 +253,9 @@ module _ (m : Mesh) (N : ℕ) (h : NeighboursIn N N m.ids) (w : Walked) (l0 : Li
     where
       by : (b : Bool) (a : WalkAnswer) (j : ℕ) → s.short ≡ b → s.walk.answer ≡ a → s.held ≡ j → At 0 (turn m s)
       by true a j eb ea ej = subst (λ (x : Walking). At 0 x) (sym (turn-short m s eb)) st
-      by false NoRoom j eb ea ej = subst (λ (x : Walking). At 0 x) (sym (turn-full m s eb ea)) st
-      by false (Done n) zero eb ea ej = subst (λ (x : Walking). At 0 x) (sym (turn-none m s eb ea ej)) st
-      by false (Done n) (suc j) eb ea ej =
+      by false (Err _) j eb ea ej = subst (λ (x : Walking). At 0 x) (sym (turn-full m s eb ea)) st
+      by false (Ok n) zero eb ea ej = subst (λ (x : Walking). At 0 x) (sym (turn-none m s eb ea ej)) st
+      by false (Ok n) (suc j) eb ea ej =
           subst (λ (x : Walking). At 0 x) (sym (turn-takes m s eb ea ej))
           (steady-answer n (walking s.walk (without s.pending j) j false) (question_at s.pending j) ea (st.asked j (omega (arith, ej))) (steady-out 0 j s ej st))
 
@@ -271,7 +271,7 @@ module _ (m : Mesh) (N : ℕ) (h : NeighboursIn N N m.ids) (w : Walked) (l0 : Li
 
 -- ---- from a pass's beginning: no edge and no question, over a list l whose places above the mark `top` are as in l0
 
-module _ (m : Mesh) (N : ℕ) (h : NeighboursIn N N m.ids) (w : Walked) (begins : w.answer ≡ Done 0) (l l0 : List ℕ) (top : ℕ)
+module _ (m : Mesh) (N : ℕ) (h : NeighboursIn N N m.ids) (w : Walked) (begins : w.answer ≡ Ok 0) (l l0 : List ℕ) (top : ℕ)
     (places : length l ≡ length l0) (top_fits : top ≤ length l0 / 2) (given : Returned 0 0 (top * 2) l l0) where
   -- the most questions, edges and live faces together
   abbrev B : ℕ

@@ -9,7 +9,7 @@ use lib.ListN.{length, get_or, set, length-set}
 use lib.Dec.{eqb, ltb}
 use lib.Seq.{get_or-set_same, get_or-set_other}
 use borrow.Author.Tests.{eqb-true, eqb-false, eq-eqb, ne_eqb, lt-ltb}
-use Rattle.epa_polytope.specs.Silhouette.{Question, WalkAnswer, Done, NoRoom, Mesh, Walked, zeros, facing, pair_put, noted, entered, walk, pass}
+use Rattle.epa_polytope.specs.Silhouette.{Question, WalkAnswer, Ok, Err, full, Mesh, Walked, zeros, facing, pair_put, noted, entered, walk, pass}
 use Rattle.epa_polytope.specs.PlainWalk.{Walking, walking, put_if, put_in, question_at, without, answer_if, answer_question, turn_by, turn, turns, plain_walk, plain_pass}
 use Rattle.epa_polytope.proofs.Walks.{zeros-set, noted-deletes-none, walk-full, walk-dead, walk-edge, walk-seen}
 
@@ -79,23 +79,23 @@ module _ (m : Mesh) (s : Walking) where
     unfolding turn
     by_answer {a} ea = ap (λ (b : Bool). turn_by b s.walk.answer s.held m s) e ∙ ap (λ (x : WalkAnswer). turn_by false x s.held m s) ea
 
-    pub turn-full : s.walk.answer ≡ NoRoom → turn m s ≡ s
+    pub turn-full : s.walk.answer ≡ full → turn m s ≡ s
     turn-full ea = by_answer ea
 
-    pub turn-none : {n : ℕ} → s.walk.answer ≡ Done n → s.held ≡ 0 → turn m s ≡ s
-    turn-none {n} ea eh = by_answer ea ∙ ap (λ (h : ℕ). turn_by false (Done n) h m s) eh
+    pub turn-none : {n : ℕ} → s.walk.answer ≡ Ok n → s.held ≡ 0 → turn m s ≡ s
+    turn-none {n} ea eh = by_answer ea ∙ ap (λ (h : ℕ). turn_by false (Ok n) h m s) eh
 
-    pub turn-takes : {n h : ℕ} → s.walk.answer ≡ Done n → s.held ≡ suc h → turn m s ≡ answer_question m (walking s.walk (without s.pending h) h false) n (question_at s.pending h)
-    turn-takes {n} ea eh = by_answer ea ∙ ap (λ (h : ℕ). turn_by false (Done n) h m s) eh
+    pub turn-takes : {n h : ℕ} → s.walk.answer ≡ Ok n → s.held ≡ suc h → turn m s ≡ answer_question m (walking s.walk (without s.pending h) h false) n (question_at s.pending h)
+    turn-takes {n} ea eh = by_answer ea ∙ ap (λ (h : ℕ). turn_by false (Ok n) h m s) eh
 
 pub turn-falls : (m : Mesh) (s : Walking) → Falls m s
 turn-falls m s = by s.short s.walk.answer s.held refl refl refl
   where
     by : (b : Bool) (a : WalkAnswer) (h : ℕ) → s.short ≡ b → s.walk.answer ≡ a → s.held ≡ h → Falls m s
     by true a h eb ea eh = rests (turn-short m s eb)
-    by false NoRoom h eb ea eh = rests (turn-full m s eb ea)
-    by false (Done n) zero eb ea eh = rests (turn-none m s eb ea eh)
-    by false (Done n) (suc h) eb ea eh =
+    by false (Err _) h eb ea eh = rests (turn-full m s eb ea)
+    by false (Ok n) zero eb ea eh = rests (turn-none m s eb ea eh)
+    by false (Ok n) (suc h) eb ea eh =
         let less = answer-less m (walking s.walk (without s.pending h) h false) n (question_at s.pending h) in
         falls (omega (arith, less, ap potential (turn-takes m s eb ea eh)))
 
@@ -148,7 +148,7 @@ pub plain-rests : (m : Mesh) (s : Walking) → turn m (plain_walk m s) ≡ plain
 unfolding plain_walk
 plain-rests m s = turns-turn (potential s) m s ∙ enough_turns (suc (potential s)) (potential s) m s (omega arith) (omega arith)
 
-pub rests-empty : (m : Mesh) (s : Walking) {n : ℕ} → turn m s ≡ s → s.short ≡ false → s.walk.answer ≡ Done n → s.held ≡ 0
+pub rests-empty : (m : Mesh) (s : Walking) {n : ℕ} → turn m s ≡ s → s.short ≡ false → s.walk.answer ≡ Ok n → s.held ≡ 0
 rests-empty m s {n} e eb ea = by s.held refl
   where
     by : (h : ℕ) → s.held ≡ h → h ≡ 0
@@ -160,7 +160,7 @@ rests-empty m s {n} e eb ea = by s.held refl
 
 -- ---- a turn as the code makes it: the three answers, by what the code tests
 
-module _ (m : Mesh) (s : Walking) {n h : ℕ} (eb : s.short ≡ false) (ea : s.walk.answer ≡ Done n) (eh : s.held ≡ suc h) where
+module _ (m : Mesh) (s : Walking) {n h : ℕ} (eb : s.short ≡ false) (ea : s.walk.answer ≡ Ok n) (eh : s.held ≡ suc h) where
   abbrev taken : Walking
   taken = walking s.walk (without s.pending h) h false
 
@@ -195,7 +195,7 @@ unfoldable pub walks : Mesh → Walked → List Question → Walked
 walks m s [] = s
 walks m s (q ∷ qs) = walks m (walk m s q) qs
 
-full_walks : (m : Mesh) (s : Walked) (qs : List Question) → s.answer ≡ NoRoom → walks m s qs ≡ s
+full_walks : (m : Mesh) (s : Walked) (qs : List Question) → s.answer ≡ full → walks m s qs ≡ s
 unfolding walks
 full_walks m s [] e = refl
 full_walks m s (q ∷ qs) e = rw (← walk-full m s q e) (full_walks m s qs e)
@@ -260,7 +260,7 @@ module _ (n : ℕ) (m : Mesh) (s : Walking) (eb : s.short ≡ false) (l : potent
       let stays = ap (λ (x : Walking). turns n m x) e ∙ rest-stays n m s e in
       record { walks-so = ap (λ (x : Walking). x.walk) stays ∙ w; none-refused = ap (λ (x : Walking). x.short) stays ∙ eb }
 
-  module _ {k h : ℕ} (ea : s.walk.answer ≡ Done k) (eh : s.held ≡ suc h) where
+  module _ {k h : ℕ} (ea : s.walk.answer ≡ Ok k) (eh : s.held ≡ suc h) where
     abbrev q : Question
     q = question_at s.pending h
 
@@ -308,9 +308,9 @@ module _ (n : ℕ) (m : Mesh) (s : Walking) (eb : s.short ≡ false) (l : potent
 
   drained-turn : (x : WalkAnswer) (h : ℕ) → s.walk.answer ≡ x → s.held ≡ h → Drained m s (turns n m (turn m s))
   unfolding walks held_from
-  drained-turn NoRoom h ea eh = rested (turn-full m s eb ea) (sym (full_walks m s.walk (held_from s.pending s.held) ea))
-  drained-turn (Done k) zero ea eh = rested (turn-none m s eb ea eh) (ap (λ (h : ℕ). walks m s.walk (held_from s.pending h)) (sym eh))
-  drained-turn (Done k) (suc h) ea eh = answered ea eh (eqb (get_or s.walk.deleted (question_at s.pending h).face 1) 0) (m.seen (question_at s.pending h)) refl refl
+  drained-turn (Err _) h ea eh = rested (turn-full m s eb ea) (sym (full_walks m s.walk (held_from s.pending s.held) ea))
+  drained-turn (Ok k) zero ea eh = rested (turn-none m s eb ea eh) (ap (λ (h : ℕ). walks m s.walk (held_from s.pending h)) (sym eh))
+  drained-turn (Ok k) (suc h) ea eh = answered ea eh (eqb (get_or s.walk.deleted (question_at s.pending h).face 1) 0) (m.seen (question_at s.pending h)) refl refl
 
 drained : (n : ℕ) (m : Mesh) (s : Walking) → s.short ≡ false → potential s ≤ n → Ample s → Drained m s (turns n m s)
 unfolding turns walks held_from

@@ -9,7 +9,8 @@ use lib.ListN.{length, set}
 use lib.Dec.{ltb}
 use lib.Ieee.{Float}
 use Rattle.shape.specs.declared.vertex.Vertex.{Vertex}
-use Rattle.heap.specs.Heap.{Heap, Entry, no_entry, pushed, popped}
+use Rattle.heap.specs.declared.Entry.{Entry}
+use Rattle.heap.specs.Heap.{Heap, no_entry, pushed, popped}
 use Rattle.epa_polytope.specs.Stores.{the_vertices, the_faces, the_edges, the_heap, the_pending, Three, put_made, Lists, put_vertex, state_of, Tally, vec_cells, State, vertex_at, Made, put_face, none_yet, room_for, face_cells, Store, face_count, with_heap, vertex_count, heap_count, with_vertices, heap_of, done_count, edge_count, pending_count, most_count, missed_count}
 use Rattle.epa_polytope.proofs.Places.{stays, after, one_set, some-sets, if-so, reads-set, none-used, used, given_back, blanked}
 use Rattle.epa_polytope.proofs.Heaps.{inside-pushed, inside-popped}

@@ -2,12 +2,12 @@
 -- Assumes nothing.
 use mathlib.Core.Path.{◌≡◌, refl, ◌∙◌}
 use mathlib.Core.Bool.{Bool, true, false}
-use mathlib.Core.Option.{Option, none, some}
+use Rattle.std.specs.Prelude.{Option, None, Some}
 use Prim.Native.Nat.{ℕ, zero, suc, ◌+◌, ◌%◌}
 use native.Mathlib.Omega.{arith}
 use lib.Dec.{eqb}
 use lib.Ieee.{Float}
-use Rattle.heap.specs.Heap.{Entry}
+use Rattle.heap.specs.declared.Entry.{Entry}
 use Rattle.epa_polytope.specs.Start.{World, VoronoiSimplex, begin}
 use Rattle.epa_polytope.specs.Stores.{State, deleted_at}
 use Rattle.epa_polytope.specs.Run.{Best, complete, settle, visit, visit_if, pop_live, iterate, loop, expansions, epa}
@@ -80,7 +80,7 @@ module _ (w : World) (g : Carried) where
   unfolding expand delete the_pass ◌>>=◌ ◌>>◌ look put pure
   from-delete p t = from-pass p (silhouette w.walk_by w.numbers p.expansion.point p.expansion.face (stores_left (delete p.expansion.face t)))
 
-  from-visit : (e : Entry) (t : State) → next (visit w g.tol g.best e t) counted ≡ next (up_to_pass_of w g (some e) t) onwards
+  from-visit : (e : Entry) (t : State) → next (visit w g.tol g.best e t) counted ≡ next (up_to_pass_of w g (Some e) t) onwards
   unfolding visit settle ◌>>=◌ look
   from-visit e t =
       alike _ _ _ counted onwards t λ t1. alike _ _ _ counted onwards t1 λ t2. alike _ _ _ counted onwards t2 λ t3. from-delete _ t3
@@ -88,8 +88,8 @@ module _ (w : World) (g : Carried) where
   from-pop : (o : Out (Option Entry)) → next (next o (λ e. ◌>>=◌ (visit_if w g.tol g.best e) (λ b. ◌>>◌ complete (pure b)))) (λ b. pure (record { tol = g.tol; best = b })) ≡ next (next o (up_to_pass_of w g)) onwards
   unfolding ◌>>=◌ ◌>>◌ answer look stop
   from-pop (ended e t) = refl
-  from-pop (onward none t) = refl
-  from-pop (onward (some e) t) = assoc (visit w g.tol g.best e t) _ _ ∙ from-visit e t
+  from-pop (onward None t) = refl
+  from-pop (onward (Some e) t) = assoc (visit w g.tol g.best e t) _ _ ∙ from-visit e t
 
   -- AN EXPANSION IS ONE PASS, with what comes before it and what follows
   pub expansion-by-pass : (s : State) → one_more w g s ≡ ◌>>=◌ (up_to_pass w g) (λ p. ◌>>◌ (the_pass w p) (after_the_pass w g p)) s

@@ -1,14 +1,14 @@
 -- The start, and the whole run: demand 3, with what every move keeps. Assumes nothing.
 use mathlib.Core.Path.{◌≡◌, refl, sym, subst}
 use mathlib.Core.Bool.{Bool, true, false, cond, not, ◌&&◌}
-use mathlib.Core.Option.{Option, none, some}
+use Rattle.std.specs.Prelude.{Option, None, Some}
 use Prim.Native.Nat.{ℕ, zero, suc, ◌+◌, ◌<◌, ◌≤◌}
 use native.Mathlib.Omega.{arith}
 use lib.Dec.{eqb}
 use lib.Ieee.{Float}
 use borrow.Author.Tests.{eqb-true, eqb-false, leb-true, not-false}
 use Rattle.shape.specs.declared.vertex.Vertex.{Vertex}
-use Rattle.heap.specs.Heap.{Entry}
+use Rattle.heap.specs.declared.Entry.{Entry}
 use Rattle.epa_polytope.specs.Start.{World, VoronoiSimplex, push_points, first_far, second, bootstrap, queue_start, start_four, four_faces, queue_four, third, two_faces, start_two, start_vertices, start_faces, begin, exchange}
 use Rattle.epa_polytope.specs.Stores.{State, the_vertices, the_faces, the_heap, live_to, live, vertex_at, Made, Lists, state_of, heap_of, none_yet}
 use Rattle.epa_polytope.specs.Steps.{End, key_at_start, Out, onward, ended, Over, three, enqueue, push_vertex, Numbers, queue_face, push_face}
@@ -144,7 +144,7 @@ module _ (J : State → Type 0) (K : Keeps J) where
         rw e (meets-then E (λ _ t. Begun f (v + 1) 0 0 t) _ _ _ s (meets-one_vertex v _ s (omega arith) h) λ _ t h1. meets-points x n (i + 1) (v + 1) t (omega arith) h1)
 
     pub meets-second : (x : Vertex) (o : Option Vertex) (s : State) → Begun f 1 0 0 s → Meets (λ _ t. Begun f 2 0 0 t) E (second x o s)
-    meets-second x none s h =
+    meets-second x None s h =
         let z = bound-zero 0 in
         let l : live s ≤ 0 = rw h.made_are h.live_few in
         meets-stop E _ _ s (record {
@@ -162,7 +162,7 @@ module _ (J : State → Type 0) (K : Keeps J) where
           in_part = refl;
           kept = h.kept;
         })
-    meets-second x (some p) s h =
+    meets-second x (Some p) s h =
         meets-one_vertex 1 p s (omega arith) h
 
     pub meets-bootstrap : (w : World) (s : State) → Begun f 1 0 0 s → Meets (λ _ t. Begun f 2 0 0 t) E (bootstrap w s)

@@ -2,7 +2,8 @@
 use mathlib.Core.Path.{◌≡◌, refl, sym, ap, ◌∙◌}
 use mathlib.Core.Bool.{Bool, true, false, not, ◌&&◌}
 use mathlib.Core.List.{List}
-use mathlib.Core.Option.{Option, none, some}
+use Rattle.std.proofs.lemmas.Option.{none-some}
+use Rattle.std.specs.Prelude.{Option, None, Some}
 use Prim.Native.Nat.{ℕ, suc, ◌+◌, ◌-◌, ◌<◌, ◌≤◌}
 use native.Mathlib.Omega.{arith}
 use native.Mathlib.Numerals.{add-one}
@@ -20,16 +21,15 @@ use Rattle.simplex.specs.declared.voronoi_simplex.VoronoiSimplex.{VoronoiSimplex
 use Rattle.simplex.specs.Simplex.{is_simplex, vertex_at as corner_of}
 use Rattle.epa_polytope.specs.declared.types.Tally.{Tally}
 use Rattle.epa_polytope.specs.declared.types.Found.TheVariants.{SinglePoint}
-use Rattle.epa_polytope.specs.declared.types.End.{End}
 use Rattle.epa_polytope.specs.declared.types.End.TheVariants.{Answers}
-use Rattle.epa_polytope.specs.declared.types.Step.{Step}
-use Rattle.epa_polytope.specs.declared.types.Step.TheVariants.{Onward, Ended}
+use Rattle.epa_polytope.specs.Promises.{Step, finish}
+use Rattle.std.specs.Prelude.{Ok, Err}
 use Rattle.epa_polytope.specs.Stores.{Lists, state_of, vertex_at}
 use Rattle.epa_polytope.specs.Steps.{Out, Nil, next, stop, look, ok, ◌>>=◌, ◌>>◌, push_vertex}
 use Rattle.epa_polytope.specs.Start.{World, first_far, second, bootstrap, push_points, scale_of}
 use Rattle.epa_polytope.specs.Promises.{Does, step_out}
-use Rattle.epa_polytope.specs.declared.types.MaybeVertex.{MaybeVertex}
-use Rattle.epa_polytope.specs.Code.{maybe_of, second_of}
+use Rattle.epa_polytope.specs.declared.types.Finish.{Finish}
+use Rattle.epa_polytope.specs.Code.{second_of}
 
 -- ---- what has to be a simplex
 
@@ -46,60 +46,57 @@ within-four x t = leb-true x.dim 3 (by (leb x.dim 3) _ _ _ _ _ t)
     by true b c d e f q = refl
     by false b c d e f q = sym q
 
--- ---- its vertices: the loop's invariant, and its turns. The lent lists are l0 at first, and l now, whatever the others hold
+-- ---- its vertices: the loop's invariant, and its turns. The lists are l0 at first, and l now
 
-pub record PointsLoop (x : VoronoiSimplex) (all : ℕ) (l0 : Lists → Lists) (run0 : Tally) (l : Lists → Lists) (run : Tally) (i : ℕ) : Type 0 where
+pub record PointsLoop (x : VoronoiSimplex) (all : ℕ) (l0 : Lists) (run0 : Tally) (l : Lists) (run : Tally) (i : ℕ) : Type 0 where
   pub within : i ≤ all
-  pub goes_on : (k : Lists) → push_points x (all - i) i (state_of (l k) run) ≡ push_points x all 0 (state_of (l0 k) run0)
+  pub goes_on : push_points x (all - i) i (state_of l run) ≡ push_points x all 0 (state_of l0 run0)
 
-pub points-start : (x : VoronoiSimplex) (all : ℕ) (l : Lists → Lists) (run : Tally) → PointsLoop x all l run l run 0
-points-start x all l run = record { within = omega arith; goes_on = λ k. let e : all - 0 ≡ all = omega arith in rw e }
+pub points-start : (x : VoronoiSimplex) (all : ℕ) (l : Lists) (run : Tally) → PointsLoop x all l run l run 0
+points-start x all l run = record { within = omega arith; goes_on = let e : all - 0 ≡ all = omega arith in rw e }
 
-module _ {x : VoronoiSimplex} {all : ℕ} {l0 : Lists → Lists} {run0 : Tally} {l : Lists → Lists} {run : Tally} {i : ℕ} (h : PointsLoop x all l0 run0 l run i) where
-  module _ {l' : Lists → Lists} {r : Step} (more : i < all) (g : (k : Lists) → Does step_out (push_vertex (corner_of x i)) (l k) run (l' k) r) where
-    one-turn : (k : Lists) {y : Step} → r ≡ y → next (step_out (l' k) y) (λ _. push_points x (all - (i + 1)) (i + 1)) ≡ push_points x all 0 (state_of (l0 k) run0)
+module _ {x : VoronoiSimplex} {all : ℕ} {l0 : Lists} {run0 : Tally} {l : Lists} {run : Tally} {i : ℕ} (h : PointsLoop x all l0 run0 l run i) where
+  module _ {l' : Lists} {r : Step} (more : i < all) (g : Does step_out (push_vertex (corner_of x i)) l run l' r) where
+    one-turn : {y : Step} → r ≡ y → next (step_out l' y) (λ _. push_points x (all - (i + 1)) (i + 1)) ≡ push_points x all 0 (state_of l0 run0)
     unfolding push_points ◌>>◌
-    one-turn k t =
+    one-turn t =
         let e : all - i ≡ suc (all - (i + 1)) = omega arith in
-        ap (λ (o : Out Nil). next o (λ _. push_points x (all - (i + 1)) (i + 1))) (rw t at (g k).same) ∙ (rw e at (h.goes_on k))
+        ap (λ (o : Out Nil). next o (λ _. push_points x (all - (i + 1)) (i + 1))) (rw t at g.same) ∙ (rw e at h.goes_on)
 
-    pub points-turn : {y : Tally} → r ≡ Onward y → PointsLoop x all l0 run0 l' y (i + 1)
-    points-turn t = record { within = omega arith; goes_on = λ k. one-turn k t }
+    pub points-turn : {y : Tally} → r ≡ Ok y → PointsLoop x all l0 run0 l' y (i + 1)
+    points-turn t = record { within = omega arith; goes_on = one-turn t }
 
-    pub points-end : {e : End} {y : Tally} → r ≡ Ended e y → (k : Lists) → Does step_out (push_points x all 0) (l0 k) run0 (l' k) r
-    points-end t k = record { same = rw t (one-turn k t) }
+    pub points-end : {e : Finish} → r ≡ Err e → Does step_out (push_points x all 0) l0 run0 l' (Err e)
+    points-end t = record { same = one-turn t }
 
-  pub points-done : all ≤ i → (k : Lists) → Does step_out (push_points x all 0) (l0 k) run0 (l k) (Onward run)
+  pub points-done : all ≤ i → Does step_out (push_points x all 0) l0 run0 l (Ok run)
   unfolding push_points ok
-  points-done z k =
+  points-done z =
       let e : all - i ≡ 0 = omega arith in
-      record { same = rw e at (h.goes_on k) }
+      record { same = rw e at h.goes_on }
 
 -- ---- a second vertex for a single one, which is v; the search answers m
 
-unlike : {v : Vertex} → MaybeVertex.None ≡ MaybeVertex.Some v → ⊥
-unlike e = let z : ◌≡◌ {A = ℕ} 0 1 = cc in omega arith
-
-module _ (w : World) (l : Lists) (c : Tally) {v : Vertex} {m : MaybeVertex} (is : v ≡ vertex_at l.vertices 0) (searched : m ≡ second_of w v.point) where
-  searched-so : {y : MaybeVertex} → m ≡ y → y ≡ second_of w (vertex_at l.vertices 0).point
+module _ (w : World) (l : Lists) (c : Tally) {v : Vertex} {m : Option Vertex} (is : v ≡ vertex_at l.vertices 0) (searched : m ≡ second_of w v.point) where
+  searched-so : {y : Option Vertex} → m ≡ y → y ≡ second_of w (vertex_at l.vertices 0).point
   searched-so t = rw (t, is) at searched
 
-  pub none-far : m ≡ MaybeVertex.None → Does step_out (bootstrap w) l c l (Ended (Answers SinglePoint v.orig1 v.orig2 y_v) c)
+  pub none-far : m ≡ None → Does step_out (bootstrap w) l c l (Err (finish (Answers SinglePoint v.orig1 v.orig2 y_v) c))
   unfolding bootstrap stop look ◌>>=◌
   none-far t = record { same = rw is (by (first_far w (vertex_at l.vertices 0).point 6 0) (searched-so t)) }
     where
-      by : (o : Option Vertex) → MaybeVertex.None ≡ maybe_of o
-          → step_out l (Ended (Answers SinglePoint (vertex_at l.vertices 0).orig1 (vertex_at l.vertices 0).orig2 y_v) c) ≡ second (vertex_at l.vertices 0) o (state_of l c)
-      by none q = refl
-      by (some y) q = absurd (unlike q)
+      by : (o : Option Vertex) → None ≡ o
+          → step_out l (Err (finish (Answers SinglePoint (vertex_at l.vertices 0).orig1 (vertex_at l.vertices 0).orig2 y_v) c)) ≡ second (vertex_at l.vertices 0) o (state_of l c)
+      by None q = refl
+      by (Some y) q = absurd (none-some y q)
 
-  pub far-pushed : {y : Vertex} {l' : Lists} {r : Step} → m ≡ MaybeVertex.Some y → Does step_out (push_vertex y) l c l' r → Does step_out (bootstrap w) l c l' r
+  pub far-pushed : {y : Vertex} {l' : Lists} {r : Step} → m ≡ Some y → Does step_out (push_vertex y) l c l' r → Does step_out (bootstrap w) l c l' r
   unfolding bootstrap look ◌>>=◌
   far-pushed {y} {l'} {r} t g = record { same = by (first_far w (vertex_at l.vertices 0).point 6 0) (searched-so t) }
     where
-      by : (o : Option Vertex) → MaybeVertex.Some y ≡ maybe_of o → step_out l' r ≡ second (vertex_at l.vertices 0) o (state_of l c)
-      by none q = absurd (unlike (sym q))
-      by (some u) q = let same : y ≡ u = cc in rw (← same) g.same
+      by : (o : Option Vertex) → Some y ≡ o → step_out l' r ≡ second (vertex_at l.vertices 0) o (state_of l c)
+      by None q = absurd (none-some y (sym q))
+      by (Some u) q = let same : y ≡ u = cc in rw (← same) g.same
 
 -- ---- the tolerance: the largest length is the root of the largest square, so one root is taken of all. A vertex more, which is v
 

@@ -1,7 +1,7 @@
 -- Two runs side by side: the expansions. What is read lies below the counts of the one run (`Deleted`, `Growing` and the other stages of Growth.antt), and so of the other. Assumes nothing.
 use mathlib.Core.Path.{◌≡◌, refl, sym, ap, subst, ◌∙◌}
 use mathlib.Core.Bool.{Bool, true, false}
-use mathlib.Core.Option.{Option, none, some}
+use Rattle.std.specs.Prelude.{Option, None, Some}
 use Prim.Native.Nat.{ℕ, zero, suc, ◌+◌, ◌-◌, ◌*◌, ◌%◌, ◌<◌, ◌≤◌}
 use native.Mathlib.Omega.{arith}
 use lib.Dec.{eqb, leb}
@@ -9,8 +9,9 @@ use lib.Ieee.{Float, Format, lt, neg}
 use borrow.Author.Tests.{eqb-false, leb-true, leb-false}
 use Rattle.vector.specs.declared.vec3.Vec3.{Vec3}
 use Rattle.vector.specs.Vector.{dot_v}
-use Rattle.heap.specs.Heap.{Entry, entry_at}
-use Rattle.epa_polytope.specs.Silhouette.{Question, WalkAnswer, Done, NoRoom, recorded_of}
+use Rattle.heap.specs.declared.Entry.{Entry}
+use Rattle.heap.specs.Heap.{entry_at}
+use Rattle.epa_polytope.specs.Silhouette.{Question, WalkAnswer, Ok, Err, recorded_of}
 use Rattle.epa_polytope.specs.PlainWalk.{Walking}
 use Rattle.epa_polytope.specs.Start.{Walk, World, format_of}
 use Rattle.epa_polytope.specs.Stores.{State, the_edges, the_faces, the_pending, normal_at, point_at, corner_at, deleted_at, vertex_at, Lists, Three, room_for, heap_of, Tally, Made}
@@ -31,8 +32,8 @@ use Rattle.epa_polytope.proofs.Iterations.{IsLive, Best-ready, meets-pop_entry, 
 use Rattle.epa_polytope.proofs.Start.{nothing-kept}
 use Rattle.epa_polytope.proofs.Twins.{same-heaps, same-vertex, same_point, same-face-normal, same-corner, same-made, same_answer, Twin, twin-face, twin-pop, twin-link, twin-delete, twin-clear, twin-complete, Twins, both-on, first_short_lem, second_short_lem, twins-bind, twins-then, twins-look, twins-pure, twins-ok, twins-check, twins-do_if, twins-branch, twins-vertex, twins-queue, twins-answer}
 
-abbrev pub None : State → Type 0
-None s = Unit {0}
+abbrev pub Whatever : State → Type 0
+Whatever s = Unit {0}
 
 -- a face is seen from a vertex in the one as in the other
 same_seen : (k : Format) (s t : State) (p : ℕ) (q : Question) → p < s.tally.vertices → CornersIn s.tally.vertices s.tally.faces s.lists.face_ids → Asked s.tally.faces q → Same s t
@@ -121,8 +122,8 @@ module _ (lent lent' : Lists) where
       ap (λ (x : Bool). passed_if x T.walk.answer (after_pass s T (recorded_of R T.walk.answer))) eb ∙ ap (λ (x : WalkAnswer). passed_if b x (after_pass s T (recorded_of R x))) ea
 
   no_place : (a : WalkAnswer) (t : State) → passed_if true a t ≡ ended (no_room the_pending) t
-  no_place (Done n) t = refl
-  no_place NoRoom t = refl
+  no_place (Ok n) t = refl
+  no_place (Err _) t = refl
 
   told-short : (s : State) (T : Walking) → T.short ≡ true → passed s T ≡ ended (no_room the_pending) (after_pass s T (recorded_of (room_for the_edges s.lists) T.walk.answer))
   told-short s T e = told-by s T e refl ∙ no_place T.walk.answer _
@@ -171,7 +172,7 @@ module _ (lent lent' : Lists) where
 
   module _ (f : ℕ) (w : Numbers) (k : ℕ) (u : Expansion) where
     module _ (first all : ℕ) (face_in : u.face < first) where
-      pub twins-queue_new : (left : ℕ) (s t : State) (i : ℕ) → i < s.tally.faces → Growing None f k u.point first all left s → s.tally.heap < s.tally.faces → Twin lent lent' s t
+      pub twins-queue_new : (left : ℕ) (s t : State) (i : ℕ) → i < s.tally.faces → Growing Whatever f k u.point first all left s → s.tally.heap < s.tally.faces → Twin lent lent' s t
           → Twins lent lent' (queue_new w u i s) (queue_new w u i t)
       unfolding queue_new
       twins-queue_new left s t i l h q g =
@@ -189,7 +190,7 @@ module _ (lent lent' : Lists) where
       body : ℕ → ℕ → ℕ → ℕ → ℕ → Made → Act Nil
       body g c n a b m = ◌>>◌ (link g ((c + 1) % 3) n) (◌>>◌ (push_face (three a b u.point) (three g (n + 1) (n - 1)) m) (do_if m.holds (queue_new w u n)))
 
-      twins-body : (left : ℕ) (s t : State) (g c a b : ℕ) (m : Made) → g < first → a < s.tally.vertices → b < s.tally.vertices → Growing None f k u.point first all (suc left) s → Twin lent lent' s t
+      twins-body : (left : ℕ) (s t : State) (g c a b : ℕ) (m : Made) → g < first → a < s.tally.vertices → b < s.tally.vertices → Growing Whatever f k u.point first all (suc left) s → Twin lent lent' s t
           → Twins lent lent' (body g c s.tally.faces a b m s) (body g c s.tally.faces a b m t)
       unfolding body
       twins-body left s t g c a b m hg ain bin h x =
@@ -197,13 +198,13 @@ module _ (lent lent' : Lists) where
           twins-link-then g ((c + 1) % 3) n _ _ s t
           (twins-face-then (three a b u.point) (three g (n + 1) (n - 1)) m _ _ _ _ (twin-link lent lent' s t g ((c + 1) % 3) n (omega (arith, h.first_in)) (omega arith) x)
           (λ room y.
-          let gr = grown None nothing-kept f w k u first all left s h g c a b m hg ain bin room in
+          let gr = grown Whatever nothing-kept f w k u first all left s h g c a b m hg ain bin room in
           twins-do_if lent lent' m.holds m.holds _ _ _ _ refl (λ _. twins-queue_new left _ _ n (omega arith) gr.0 gr.1 y) y))
 
       as-body : (x : Out Nil) (g c n n' a a' b b' : ℕ) (m m' : Made) (t : State) → n ≡ n' → a ≡ a' → b ≡ b' → m ≡ m' → Twins lent lent' x (body g c n a b m t) → Twins lent lent' x (body g c n' a' b' m' t)
       as-body x g c n n' a a' b b' m m' t en ea eb em h = rw (← en, ← ea, ← eb, ← em) h
 
-      pub twins-grow_at : (left : ℕ) (s t : State) (g c : ℕ) → g < first → c < 3 → Growing None f k u.point first all (suc left) s → Twin lent lent' s t
+      pub twins-grow_at : (left : ℕ) (s t : State) (g c : ℕ) → g < first → c < 3 → Growing Whatever f k u.point first all (suc left) s → Twin lent lent' s t
           → Twins lent lent' (grow_at w u g c s) (grow_at w u g c t)
       unfolding grow_at body
       twins-grow_at left s t g c hg hc h x =
@@ -225,7 +226,7 @@ module _ (lent lent' : Lists) where
       same-edge s t F C F' C' ef ec ed x h =
           rw (← ef, ← ec) (twins-do_if lent lent' _ _ _ _ s t (ap (λ (j : ℕ). eqb j 0) ed) (λ _. h) x)
 
-      pub twins-grow : (left : ℕ) (s t : State) (i : ℕ) → i < all → Growing None f k u.point first all (suc left) s → Twin lent lent' s t → Twins lent lent' (grow w u i s) (grow w u i t)
+      pub twins-grow : (left : ℕ) (s t : State) (i : ℕ) → i < all → Growing Whatever f k u.point first all (suc left) s → Twin lent lent' s t → Twins lent lent' (grow w u i s) (grow w u i t)
       unfolding grow
       twins-grow left s t i hi h x =
           let F = edge_face s.lists.edges i in
@@ -236,11 +237,11 @@ module _ (lent lent' : Lists) where
           (same-edge s t F C _ _ (x.same.edges.same (i * 2) 0 (omega arith)) (x.same.edges.same (i * 2 + 1) 0 (omega arith)) (x.same.deleted.same F 1 (omega (arith, h.first_in))) x
           (twins-grow_at left s t F C l_f (h.edges_in.corners i hi) h x))
 
-      pub twins-grow_all : (left : ℕ) (s t : State) (i : ℕ) → i + left ≡ all → Growing None f k u.point first all left s → Twin lent lent' s t → Twins lent lent' (grow_all w u left i s) (grow_all w u left i t)
+      pub twins-grow_all : (left : ℕ) (s t : State) (i : ℕ) → i + left ≡ all → Growing Whatever f k u.point first all left s → Twin lent lent' s t → Twins lent lent' (grow_all w u left i s) (grow_all w u left i t)
       unfolding grow_all
       twins-grow_all zero s t i e h x = twins-ok lent lent' s t x
       twins-grow_all (suc left) s t i e h x =
-          twins-then lent lent' _ _ _ _ s t (meets-grow None nothing-kept f w k u first all left s i (omega arith) h) (twins-grow left s t i (omega arith) h x)
+          twins-then lent lent' _ _ _ _ s t (meets-grow Whatever nothing-kept f w k u first all left s i (omega arith) h) (twins-grow left s t i (omega arith) h x)
           (λ _ s1 t1 h1 x1. twins-grow_all left s1 t1 (i + 1) (omega arith) h1 x1)
 
       -- ---- the ring
@@ -257,7 +258,7 @@ module _ (lent lent' : Lists) where
       twins-ring s t l x =
           let n = s.tally.faces in
           twins-check lent lent' _ _ (nothing all_deleted) _ _ s t refl x
-          (λ e. let lt1 : first < n = newer None nothing-kept f w k u n first l (eqb-false _ _ e) in
+          (λ e. let lt1 : first < n = newer Whatever nothing-kept f w k u n first l (eqb-false _ _ e) in
           let x1 = twin-link lent lent' s t first 2 (n - 1) lt1 (omega arith) x in
           let ln : n - 1 < n = omega arith in
           let x2 = twin-link lent lent' (with_link s first 2 (n - 1)) (with_link t first 2 (n - 1)) (n - 1) 1 first ln (omega arith) x1 in
@@ -268,10 +269,10 @@ module _ (lent lent' : Lists) where
       twins-close s t l x =
           twins-look lent lent' _ _ s t (subst (λ (n : ℕ). Twins lent lent' (ring s.tally.faces s) (ring n t)) (ap (λ (c : Tally). c.faces) x.same.tally) (twins-ring s t l x))
 
-      pub twins-rest : (s t : State) → Growing None f k u.point first all all s → Twin lent lent' s t
+      pub twins-rest : (s t : State) → Growing Whatever f k u.point first all all s → Twin lent lent' s t
           → Twins lent lent' (◌>>◌ (grow_all w u all 0) (close_ring first) s) (◌>>◌ (grow_all w u all 0) (close_ring first) t)
       twins-rest s t h x =
-          twins-then lent lent' _ _ _ _ s t (meets-grow_all None nothing-kept f w k u first all all 0 all s 0 (omega arith) (omega arith) h) (twins-grow_all all s t 0 (omega arith) h x)
+          twins-then lent lent' _ _ _ _ s t (meets-grow_all Whatever nothing-kept f w k u first all all 0 all s 0 (omega arith) (omega arith) h) (twins-grow_all all s t 0 (omega arith) h x)
           (λ _ s1 t1 h1 x1. twins-close s1 t1 h1.first_in x1)
 
     as-rest : (o : Out Nil) (first first' all all' : ℕ) (t : State) → first ≡ first' → all ≡ all' → Twins lent lent' o (◌>>◌ (grow_all w u all 0) (close_ring first) t) → Twins lent lent' o (◌>>◌ (grow_all w u all' 0) (close_ring first') t)
@@ -281,17 +282,17 @@ module _ (lent lent' : Lists) where
     unfolding delete ◌>>=◌ look put
     twins-delete i s t l x = both-on lent lent' tt tt refl (twin-delete lent lent' s t i l x)
 
-    pub twins-expand : (y : Walk) (s t : State) → Visited None f k u.point u.face s → Twin lent lent' s t → Twins lent lent' (expand y w u s) (expand y w u t)
+    pub twins-expand : (y : Walk) (s t : State) → Visited Whatever f k u.point u.face s → Twin lent lent' s t → Twins lent lent' (expand y w u s) (expand y w u t)
     unfolding expand regrow
     twins-expand y s t h x =
         let K = nothing-kept in
-        twins-then lent lent' _ _ _ _ s t (meets-delete None K f w k u u.face s h) (twins-delete u.face s t h.face_in x) λ _ s1 t1 h1 x1.
-        twins-then lent lent' _ _ _ _ s1 t1 (meets-silhouette None K f w k u y u.face s.tally.faces s1 h1)
+        twins-then lent lent' _ _ _ _ s t (meets-delete Whatever K f w k u u.face s h) (twins-delete u.face s t h.face_in x) λ _ s1 t1 h1 x1.
+        twins-then lent lent' _ _ _ _ s1 t1 (meets-silhouette Whatever K f w k u y u.face s.tally.faces s1 h1)
         (twins-silhouette y w u.point u.face s1 t1 h1.sound.neighbours_in h1.sound.corners_in h1.face_in h1.stage.point_in x1) λ _ s2 t2 h2 x2.
         twins-look lent lent' _ _ s2 t2
         (twins-check lent lent' _ _ (nothing no_silhouette) _ _ s2 t2 (ap (λ (n : ℕ). eqb n 0) (ap (λ (c : Tally). c.edges) x2.same.tally)) x2
         (λ _. as-rest _ s2.tally.faces t2.tally.faces s2.tally.edges t2.tally.edges t2 (ap (λ (c : Tally). c.faces) x2.same.tally) (ap (λ (c : Tally). c.edges) x2.same.tally)
-        (twins-rest s2.tally.faces s2.tally.edges (omega (arith, h.face_in, h2.same)) s2 t2 (growing None K f w k u s.tally.faces s2 h2) x2)))
+        (twins-rest s2.tally.faces s2.tally.edges (omega (arith, h.face_in, h2.same)) s2 t2 (growing Whatever K f w k u s.tally.faces s2 h2) x2)))
 
   -- ---- the loop
 
@@ -300,69 +301,69 @@ module _ (lent lent' : Lists) where
     unfolding pop_entry ◌>>=◌ ◌>>◌ look put pure
     twins-pop_entry n s t e x = both-on lent lent' (entry_at (heap_of s) 0) (entry_at (heap_of t) 0) (alike-entry s.tally.heap (heap_of s) (heap_of t) 0 (omega arith) (same-heaps s t x.same)) (twin-pop lent lent' s t n e x)
 
-    pub twins-pop_live : (k n : ℕ) (s t : State) → s.tally.heap ≡ n → Ready None f k s → Twin lent lent' s t → Twins lent lent' (pop_live n s) (pop_live n t)
+    pub twins-pop_live : (k n : ℕ) (s t : State) → s.tally.heap ≡ n → Ready Whatever f k s → Twin lent lent' s t → Twins lent lent' (pop_live n s) (pop_live n t)
     unfolding pop_live
-    twins-pop_live k zero s t e h x = twins-pure lent lent' none none s t refl x
+    twins-pop_live k zero s t e h x = twins-pure lent lent' None None s t refl x
     twins-pop_live k (suc n) s t e h x =
-        twins-bind lent lent' _ _ _ _ s t (meets-pop_entry None nothing-kept f w k n s e h) (twins-pop_entry n s t e x)
+        twins-bind lent lent' _ _ _ _ s t (meets-pop_entry Whatever nothing-kept f w k n s e h) (twins-pop_entry n s t e x)
         (λ a s1 t1 p x1. twins-look lent lent' _ _ s1 t1 (twins-branch lent lent' _ _ _ _ _ _ s1 t1 (ap (λ (j : ℕ). eqb j 0) (x1.same.deleted.same a.face 1 p.0.2))
-        (λ _. twins-pure lent lent' (some a) (some a) s1 t1 refl x1)
+        (λ _. twins-pure lent lent' (Some a) (Some a) s1 t1 refl x1)
         (λ _. twins-pop_live k n s1 t1 p.0.1 p.0.0 x1)))
 
-    pub twins-settle : (k : ℕ) (tol : Float) (b : Best) (e : Entry) (p : ℕ) (c : Float) (s t : State) → Visited None f k p e.face s → b.face < s.tally.faces → Twin lent lent' s t
+    pub twins-settle : (k : ℕ) (tol : Float) (b : Best) (e : Entry) (p : ℕ) (c : Float) (s t : State) → Visited Whatever f k p e.face s → b.face < s.tally.faces → Twin lent lent' s t
         → Twins lent lent' (settle w tol b e p c s) (settle w tol b e p c t)
     unfolding settle
     twins-settle k tol b e p c s t h hb x =
-        let l : (bettered b e.face c).face < s.tally.faces = better-in None nothing-kept f w b e.face s.tally.faces c hb h.face_in in
+        let l : (bettered b e.face c).face < s.tally.faces = better-in Whatever nothing-kept f w b e.face s.tally.faces c hb h.face_in in
         twins-if_answer _ w.numbers converged _ _ _ s t l h.sound.corners_in x
         (twins-if_answer _ w.numbers stuck _ _ _ s t l h.sound.corners_in x
-        (twins-then lent lent' _ _ _ _ s t (meets-expand None nothing-kept f w.numbers k _ w.walk_by s h) (twins-expand f w.numbers k _ w.walk_by s t h x)
+        (twins-then lent lent' _ _ _ _ s t (meets-expand Whatever nothing-kept f w.numbers k _ w.walk_by s h) (twins-expand f w.numbers k _ w.walk_by s t h x)
         (λ _ s1 t1 h1 x1. twins-pure lent lent' _ _ s1 t1 refl x1)))
 
     as-settle : (tol : Float) (b : Best) (e : Entry) (p p' : ℕ) (c c' : Float) (o : Out Best) (t : State) → p ≡ p' → c ≡ c' → Twins lent lent' o (settle w tol b e p c t) → Twins lent lent' o (settle w tol b e p' c' t)
     as-settle tol b e p p' c c' o t ep ec h = rw (← ep, ← ec) h
 
-    pub twins-visit : (k : ℕ) (tol : Float) (b : Best) (e : Entry) (s t : State) → k ≤ 100 → Best-ready None nothing-kept f w k b s → IsLive (some e) s → Twin lent lent' s t
+    pub twins-visit : (k : ℕ) (tol : Float) (b : Best) (e : Entry) (s t : State) → k ≤ 100 → Best-ready Whatever nothing-kept f w k b s → IsLive (Some e) s → Twin lent lent' s t
         → Twins lent lent' (visit w tol b e s) (visit w tol b e t)
     unfolding visit
     twins-visit k tol b e s t l hb a x =
         let n : normal_at s e.face ≡ normal_at t e.face = same-face-normal s t e.face a.0 x.same in
         let h = hb.ready in
         twins-look lent lent' _ _ s t
-        (twins-then lent lent' {P = λ _ s1. Visited None f k s.tally.vertices e.face s1 × (s1.tally.faces ≡ s.tally.faces)} {E = λ _ _. Unit {0}} _ _ _ _ s t
-        (meets-vertex _ _ _ s (λ _. tt) (λ room. (visited None nothing-kept f w k s e.face _ l h a room, refl)))
+        (twins-then lent lent' {P = λ _ s1. Visited Whatever f k s.tally.vertices e.face s1 × (s1.tally.faces ≡ s.tally.faces)} {E = λ _ _. Unit {0}} _ _ _ _ s t
+        (meets-vertex _ _ _ s (λ _. tt) (λ room. (visited Whatever nothing-kept f w k s e.face _ l h a room, refl)))
         (twins-vertex lent lent' _ _ s t (ap (λ (v : Vec3). w.supp v) n) x)
         (λ _ s1 t1 h1 x1. as-settle tol b e s.tally.vertices t.tally.vertices _ _ _ t1 (ap (λ (c : Tally). c.vertices) x.same.tally) (ap (λ (v : Vec3). dot_v (format_of w) (w.supp v).point v) n)
         (twins-settle k tol b e s.tally.vertices _ s1 t1 h1.0 (omega (arith, hb.best_in, h1.1)) x1)))
 
-    pub twins-visit_if : (k : ℕ) (tol : Float) (b : Best) (o : Option Entry) (s t : State) → k ≤ 100 → Best-ready None nothing-kept f w k b s → IsLive o s → Twin lent lent' s t
+    pub twins-visit_if : (k : ℕ) (tol : Float) (b : Best) (o : Option Entry) (s t : State) → k ≤ 100 → Best-ready Whatever nothing-kept f w k b s → IsLive o s → Twin lent lent' s t
         → Twins lent lent' (visit_if w tol b o s) (visit_if w tol b o t)
-    twins-visit_if k tol b none s t l h a x = twins-answer lent lent' w.numbers heap_empty b.face s t h.best_in h.ready.sound.corners_in x
-    twins-visit_if k tol b (some e) s t l h a x = twins-visit k tol b e s t l h a x
+    twins-visit_if k tol b None s t l h a x = twins-answer lent lent' w.numbers heap_empty b.face s t h.best_in h.ready.sound.corners_in x
+    twins-visit_if k tol b (Some e) s t l h a x = twins-visit k tol b e s t l h a x
 
     pub twins-complete : (s t : State) → Twin lent lent' s t → Twins lent lent' (complete s) (complete t)
     unfolding complete ◌>>=◌ look put
     twins-complete s t x = both-on lent lent' tt tt refl (twin-complete lent lent' s t x)
 
-    pub twins-iterate : (k : ℕ) (tol : Float) (b : Best) (s t : State) → k ≤ 100 → Best-ready None nothing-kept f w k b s → Twin lent lent' s t
+    pub twins-iterate : (k : ℕ) (tol : Float) (b : Best) (s t : State) → k ≤ 100 → Best-ready Whatever nothing-kept f w k b s → Twin lent lent' s t
         → Twins lent lent' (iterate w tol b s) (iterate w tol b t)
     unfolding iterate
     twins-iterate k tol b s t l h x =
         let K = nothing-kept in
         twins-look lent lent' _ _ s t
-        (twins-bind lent lent' _ _ _ _ s t (meets-pop_live None K f w k s.tally.heap s refl h.ready)
+        (twins-bind lent lent' _ _ _ _ s t (meets-pop_live Whatever K f w k s.tally.heap s refl h.ready)
         (subst (λ (n : ℕ). Twins lent lent' (pop_live s.tally.heap s) (pop_live n t)) (ap (λ (c : Tally). c.heap) x.same.tally) (twins-pop_live k s.tally.heap s t refl h.ready x))
         (λ o s1 t1 p x1.
-        let h1 : Best-ready None K f w k b s1 = record { ready = p.0; best_in = rw p.2 h.best_in } in
-        twins-bind lent lent' _ _ _ _ s1 t1 (meets-visit_if None K f w k tol b o s1 l h1 p.1) (twins-visit_if k tol b o s1 t1 l h1 p.1 x1)
+        let h1 : Best-ready Whatever K f w k b s1 = record { ready = p.0; best_in = rw p.2 h.best_in } in
+        twins-bind lent lent' _ _ _ _ s1 t1 (meets-visit_if Whatever K f w k tol b o s1 l h1 p.1) (twins-visit_if k tol b o s1 t1 l h1 p.1 x1)
         (λ b1 s2 t2 h2 x2.
-        twins-then lent lent' _ _ _ _ s2 t2 (meets-complete None K f w k b1 s2 h2) (twins-complete s2 t2 x2)
+        twins-then lent lent' _ _ _ _ s2 t2 (meets-complete Whatever K f w k b1 s2 h2) (twins-complete s2 t2 x2)
         (λ _ s3 t3 h3 x3. twins-pure lent lent' b1 b1 s3 t3 refl x3))))
 
-    pub twins-loop : (n k : ℕ) (tol : Float) (b : Best) (s t : State) → k + n ≡ 101 → Best-ready None nothing-kept f w k b s → Twin lent lent' s t
+    pub twins-loop : (n k : ℕ) (tol : Float) (b : Best) (s t : State) → k + n ≡ 101 → Best-ready Whatever nothing-kept f w k b s → Twin lent lent' s t
         → Twins lent lent' (loop w tol n b s) (loop w tol n b t)
     unfolding loop
     twins-loop zero k tol b s t l h x = twins-answer lent lent' w.numbers enough_expansions b.face s t h.best_in h.ready.sound.corners_in x
     twins-loop (suc n) k tol b s t l h x =
-        twins-bind lent lent' _ _ _ _ s t (meets-iterate None nothing-kept f w k tol b s (omega arith) h) (twins-iterate k tol b s t (omega arith) h x)
+        twins-bind lent lent' _ _ _ _ s t (meets-iterate Whatever nothing-kept f w k tol b s (omega arith) h) (twins-iterate k tol b s t (omega arith) h x)
         (λ b1 s1 t1 h1 x1. twins-loop n (suc k) tol b1 s1 t1 (omega arith) h1 x1)

@@ -10,7 +10,8 @@ use lib.Dec.{leb}
 use lib.Ieee.{Float, Format, nan}
 use borrow.Author.Tests.{lt-ltb, leb-true, leb-false}
 use Rattle.shape.specs.declared.vertex.Vertex.{Vertex}
-use Rattle.heap.specs.Heap.{Heap, Entry, pushed, popped}
+use Rattle.heap.specs.declared.Entry.{Entry}
+use Rattle.heap.specs.Heap.{Heap, pushed, popped}
 use Rattle.epa_polytope.specs.Same.{Alike, Same, Short, short, Agreed, first_short, second_short, alike}
 use Rattle.epa_polytope.proofs.Alike.{AlikeHeap, alike-none, alike_set, alike-sets, alike-over, alike-push, alike-pushed, alike-popped}
 use Rattle.epa_polytope.proofs.Lengths.{SameLength, same-rooms, same-moves}

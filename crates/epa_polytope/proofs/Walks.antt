@@ -9,7 +9,7 @@ use lib.ListN.{length, get_or, set, length-set}
 use lib.Dec.{eqb, ltb}
 use borrow.Author.Tests.{eqb-true, eq-eqb, ne_eqb, ltb-true, ltb-false}
 use Rattle.epa_polytope.specs.Stores.{corner_in, live_to}
-use Rattle.epa_polytope.specs.Silhouette.{WalkAnswer, Done, NoRoom, Question, Mesh, Walked, walked, zeros, Lookup, Facing, FoundAt, Missing, next_ccw_pt_id, corner_or0, misses, lookup, facing, with_missed, facing_from, entered, pair_put, noted_if, noted, ask_if, ask, walk_in, walk, pass, recorded_of}
+use Rattle.epa_polytope.specs.Silhouette.{WalkAnswer, Ok, Err, full, Question, Mesh, Walked, walked, zeros, Option, Facing, Some, None, next_ccw_pt_id, corner_or0, misses, lookup, facing, with_missed, facing_from, entered, pair_put, noted_if, noted, ask_if, ask, walk_in, walk, pass, recorded_of}
 use Rattle.epa_polytope.specs.Bounds.{NeighboursIn}
 use Rattle.epa_polytope.specs.Rule.{Untouched}
 use Rattle.epa_polytope.proofs.Basics.{EdgesIn, edges-put, live-delete}
@@ -40,17 +40,17 @@ Go = Walked → Question → Walked
 module _ (m : Mesh) (Q : Question → Type 0) (P : Walked → Walked → Type 0)
     (on : (q : Question) → Q q → Q (facing m.ids q.face ((q.corner + 2) % 3)) × Q (facing m.ids q.face q.corner))
     (stay : (s : Walked) → P s s)
-    (edge : (s : Walked) (n : ℕ) (q : Question) → Q q → s.answer ≡ Done n → P s (noted s n q))
+    (edge : (s : Walked) (n : ℕ) (q : Question) → Q q → s.answer ≡ Ok n → P s (noted s n q))
     (both : (s s1 s2 : Walked) (q : Question) → Q q → get_or s.deleted q.face 1 ≡ 0 → P (entered m s q) s1 → P s1 s2 → P s s2) where
   ask-law : (go : Go) → ((s : Walked) (q : Question) → Q q → P s (go s q)) → (s : Walked) (q : Question) → Q q → P s (ask m go s q)
   unfolding ask
   ask-law go h s q y = by s.answer (eqb (get_or s.deleted q.face 1) 0) (m.seen q) refl refl
     where
       by : (a : WalkAnswer) (d v : Bool) → s.answer ≡ a → eqb (get_or s.deleted q.face 1) 0 ≡ d → P s (ask_if a d v m go s q)
-      by NoRoom d v e z = stay s
-      by (Done n) false v e z = stay s
-      by (Done n) true false e z = edge s n q y e
-      by (Done n) true true e z = both s _ _ q y (eqb-true _ _ z) (h _ _ (on q y).0) (h _ _ (on q y).1)
+      by (Err _) d v e z = stay s
+      by (Ok n) false v e z = stay s
+      by (Ok n) true false e z = edge s n q y e
+      by (Ok n) true true e z = both s _ _ q y (eqb-true _ _ z) (h _ _ (on q y).0) (h _ _ (on q y).1)
 
   walk_in-law : (n : ℕ) (s : Walked) (q : Question) → Q q → P s (walk_in n m s q)
   unfolding walk_in
@@ -88,10 +88,10 @@ ask-stays m go s q h = by s.answer (eqb (get_or s.deleted q.face 1) 0) (m.seen q
     none e = let z : ⊥ = omega (arith, zeros-set s.deleted q.face (eqb-true _ _ e)) in absurd z
 
     by : (a : WalkAnswer) (d v : Bool) → eqb (get_or s.deleted q.face 1) 0 ≡ d → s ≡ ask_if a d v m go s q
-    by NoRoom d v e = refl
-    by (Done n) false v e = refl
-    by (Done n) true false e = none e
-    by (Done n) true true e = none e
+    by (Err _) d v e = refl
+    by (Ok n) false v e = refl
+    by (Ok n) true false e = none e
+    by (Ok n) true true e = none e
 
 -- a question is answered alike by two that answer alike what follows from it, where fewer faces are live
 ask-agree : (m : Mesh) (go go' : Go) (s : Walked) (q : Question)
@@ -102,10 +102,10 @@ unfolding ask
 ask-agree m go go' s q low same = by s.answer (eqb (get_or s.deleted q.face 1) 0) (m.seen q) refl
   where
     by : (a : WalkAnswer) (d v : Bool) → eqb (get_or s.deleted q.face 1) 0 ≡ d → ask_if a d v m go s q ≡ ask_if a d v m go' s q
-    by NoRoom d v e = refl
-    by (Done k) false v e = refl
-    by (Done k) true false e = refl
-    by (Done k) true true e =
+    by (Err _) d v e = refl
+    by (Ok k) false v e = refl
+    by (Ok k) true false e = refl
+    by (Ok k) true true e =
         let s1 : Walked = entered m s q in
         let q1 : Question = facing m.ids q.face ((q.corner + 2) % 3) in
         let q2 : Question = facing m.ids q.face q.corner in
@@ -141,7 +141,7 @@ next-below : (ids : List ℕ) (f p : ℕ) → corner_or0 (next_ccw_pt_id ids f p
 unfolding next_ccw_pt_id
 next-below ids f p = by (eqb (corner_in ids f 0) p) (eqb (corner_in ids f 1) p) (eqb (corner_in ids f 2) p)
   where
-    by : (a b c : Bool) → corner_or0 (cond a (FoundAt 1) (cond b (FoundAt 2) (cond c (FoundAt 0) Missing))) < 3
+    by : (a b c : Bool) → corner_or0 (cond a (Some 1) (cond b (Some 2) (cond c (Some 0) None))) < 3
     by true b c = omega arith
     by false true c = omega arith
     by false false true = omega arith
@@ -154,16 +154,16 @@ asked-facing ids N h f k hf hk = record { face_in = h.below f k hf hk; corner_in
 
 -- how many edges a walk has asked to record: one more than there is room for, where it found none
 abbrev pub asked_of : ℕ → WalkAnswer → ℕ
-asked_of room (Done n) = n
-asked_of room NoRoom = suc room
+asked_of room (Ok n) = n
+asked_of room (Err _) = suc room
 
 -- the room for edges
 abbrev pub edge_room : Walked → ℕ
 edge_room s = length s.edges / 2
 
 abbrev pub Recorded : ℕ → Walked → WalkAnswer → Type 0
-Recorded N s (Done n) = EdgesIn N n s.edges
-Recorded N s NoRoom = Unit {0}
+Recorded N s (Ok n) = EdgesIn N n s.edges
+Recorded N s (Err _) = Unit {0}
 
 length-put : (l : List ℕ) (n : ℕ) (q : Question) → length (pair_put l n q) ≡ length l
 length-put l n q = length-set (set l (n * 2) q.face) (n * 2 + 1) q.corner ∙ length-set l (n * 2) q.face
@@ -258,10 +258,10 @@ module _ (m : Mesh) (N : ℕ) (h : NeighboursIn N N m.ids) where
       y
     where
       as-deleted : (s : Walked) (q : Question) (a : WalkAnswer) → Recorded N s a → Recorded N (entered m s q) a
-      as-deleted s q (Done n) i = i
-      as-deleted s q NoRoom i = tt
+      as-deleted s q (Ok n) i = i
+      as-deleted s q (Err _) i = tt
 
-  pub reached-noted : (s : Walked) (n : ℕ) (q : Question) → s.answer ≡ Done n → recorded_of (edge_room s) s.answer ≤ edge_room s → Reached N s (noted s n q)
+  pub reached-noted : (s : Walked) (n : ℕ) (q : Question) → s.answer ≡ Ok n → recorded_of (edge_room s) s.answer ≤ edge_room s → Reached N s (noted s n q)
   reached-noted s n q e l = by (ltb n (edge_room s)) refl
     where
       was : recorded_of (edge_room s) s.answer ≡ n
@@ -323,9 +323,9 @@ module _ (m : Mesh) (N : ℕ) (h : NeighboursIn N N m.ids) where
 
 -- ---- the lookups that miss
 
-pub misses-one : (a : Lookup) → misses a ≤ 1
-misses-one (FoundAt k) = omega arith
-misses-one Missing = omega arith
+pub misses-one : (a : Option ℕ) → misses a ≤ 1
+misses-one (Some k) = omega arith
+misses-one None = omega arith
 
 -- an edge misses none, and deletes none
 pub misses-noted : (N : ℕ) (s : Walked) (n : ℕ) (q : Question) → (noted s n q).missed + 2 * live_to N (noted s n q).deleted ≤ s.missed + 2 * live_to N s.deleted
@@ -371,11 +371,11 @@ unfolding walk
 walk-zeros m s q = walk_in-zeros (zeros s.deleted) m s q
 
 module _ (m : Mesh) (s : Walked) (q : Question) where
-  pub walk-full : s.answer ≡ NoRoom → s ≡ walk m s q
+  pub walk-full : s.answer ≡ full → s ≡ walk m s q
   unfolding ask
   walk-full e = rw (walk_step m s q, e)
 
-  module _ {n : ℕ} (e : s.answer ≡ Done n) where
+  module _ {n : ℕ} (e : s.answer ≡ Ok n) where
     pub walk-dead : (get_or s.deleted q.face 1 ≡ 0 → ⊥) → s ≡ walk m s q
     unfolding ask
     walk-dead h = rw (walk_step m s q, e, ne_eqb _ _ h)
@@ -392,7 +392,7 @@ module _ (m : Mesh) (s : Walked) (q : Question) where
       -- by the lookups that the code makes, and the states that the two calls leave
       pub walk-both : (d1 : List ℕ) (f1 f2 : Facing) → m.seen q ≡ true → d1 ≡ set s.deleted q.face 1
           → f1 ≡ facing_from m.ids q.face ((q.corner % 3 + 2) % 3) s.missed → f2 ≡ facing_from m.ids q.face q.corner f1.missed
-          → (s1 s2 : Walked) → s1 ≡ walk m (walked d1 s.edges f2.missed (Done n)) f1.question → s2 ≡ walk m s1 f2.question → s2 ≡ walk m s q
+          → (s1 s2 : Walked) → s1 ≡ walk m (walked d1 s.edges f2.missed (Ok n)) f1.question → s2 ≡ walk m s1 f2.question → s2 ≡ walk m s q
       walk-both d1 f1 f2 h ed e1 e2 s1 s2 h1 h2 =
           let g1 : f1 ≡ facing_from m.ids q.face ((q.corner + 2) % 3) s.missed = e1 ∙ ap (λ (k : ℕ). facing_from m.ids q.face k s.missed) (next-two q.corner) in
           let y1 : f1.missed ≡ with_missed m.ids q.face ((q.corner + 2) % 3) s.missed = ap (λ (f : Facing). f.missed) g1 in

@@ -10,7 +10,8 @@ use Rattle.number.specs.Constants.{epsilon}
 use Rattle.number.specs.Small.{absolute}
 use Rattle.vector.specs.Vector.{◌⊖◌}
 use Rattle.heap.proofs.Steps.{swap-count}
-use Rattle.heap.specs.Heap.{Heap, Entry, heap, put as put_entry, swap, less, rise_in, rise, pushed, entry}
+use Rattle.heap.specs.declared.Entry.{Entry}
+use Rattle.heap.specs.Heap.{Heap, heap, put as put_entry, swap, less, rise_in, rise, pushed, entry}
 use Rattle.epa_polytope.specs.Start.{World, queue_start, four_faces, queue_four, start_four, two_faces, start_two, start_faces}
 use Rattle.epa_polytope.specs.Stores.{State, heap_of}
 use Rattle.epa_polytope.specs.Steps.{Lost, End, Out, Nil, push_face, enqueue, queue_face, do_if}

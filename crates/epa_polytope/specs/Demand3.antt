@@ -1,11 +1,12 @@
 -- Document 01's demand 3 in its own words: the states of a run between its expansions, the expansions of a run that has ended, and its silhouette passes. Definitions only; the laws
 -- stand in proofs/Demand3.antt.
 use Rattle.std.specs.Prelude.{◌≡◌, ℕ, zero, suc, ◌+◌, ◌-◌, ◌%◌, ◌≤◌, Bool, false, eqb, Float}
-use Rattle.std.proofs.Math.Option.{Option, none, some}
+use Rattle.std.specs.Prelude.{Option, None, Some}
 use Rattle.std.specs.Float.Ieee.{neg}
 use Rattle.number.specs.Constants.{largest}
 use Rattle.vector.specs.Vector.{zero_f, dot_v}
-use Rattle.heap.specs.Heap.{Entry, entry_at}
+use Rattle.heap.specs.declared.Entry.{Entry}
+use Rattle.heap.specs.Heap.{entry_at}
 use Rattle.epa_polytope.specs.Start.{World, format_of, VoronoiSimplex, begin}
 use Rattle.epa_polytope.specs.Stores.{Lists, State, state_of, none_yet, heap_of, live, normal_at, corner_at, deleted_at}
 use Rattle.epa_polytope.specs.Run.{Best, iterate, loop, pop_live, bettered, has_converged, is_stuck, complete}
@@ -44,8 +45,8 @@ rest w n g = loop w g.tol n g.best
 
 -- the stores that a run over the lent lists l has after k expansions, if it completes so many
 abbrev pub stores_in : {A : Type 0} → Out A → Option State
-stores_in (onward a t) = some t
-stores_in (ended e t) = none
+stores_in (onward a t) = Some t
+stores_in (ended e t) = None
 
 unfoldable pub state_after : World → VoronoiSimplex → Lists → ℕ → Option State
 state_after w x l k = stores_in (run_to w x k (state_of l none_yet))
@@ -54,8 +55,8 @@ state_after w x l k = stores_in (run_to w x k (state_of l none_yet))
 
 -- the part in which a run ends: its start, if that leaves no stores to expand
 abbrev pub part_by : Option State → Part
-part_by none = the_start
-part_by (some t) = the_loop
+part_by None = the_start
+part_by (Some t) = the_loop
 
 -- k: the expansions of the run over l that ended with e and the stores t, counting one under way
 unfoldable pub expansions_of : World → VoronoiSimplex → Lists → End → State → ℕ
@@ -90,8 +91,8 @@ pub record Passing : Type 0 where
   pub best : Best
 
 abbrev pub up_to_pass_of : World → Carried → Option Entry → Act Passing
-up_to_pass_of w g none = answer w.numbers heap_empty g.best.face
-up_to_pass_of w g (some e) = do
+up_to_pass_of w g None = answer w.numbers heap_empty g.best.face
+up_to_pass_of w g (Some e) = do
   s ← look
   let k = format_of w
   let v = w.supp (normal_at s e.face)
@@ -184,4 +185,4 @@ pub record FewEdges (before after : State) : Type 0 where
 -- the run completes k expansions
 pub record Completes (w : World) (x : VoronoiSimplex) (l : Lists) (k : ℕ) : Type 0 where
   pub stores : State
-  pub are : state_after w x l k ≡ some stores
+  pub are : state_after w x l k ≡ Some stores

@@ -4,7 +4,7 @@ use Rattle.std.specs.Prelude.{◌≡◌, true, cond, List, [], ◌∷◌, ◌++�
 use Rattle.std.specs.Float.{nan}
 use Rattle.std.specs.Float.Ieee.{le, neg}
 use Rattle.vector.specs.Vector.{dot_v}
-use Rattle.heap.specs.Heap.{Entry}
+use Rattle.heap.specs.declared.Entry.{Entry}
 use Rattle.epa_polytope.specs.Stores.{Lists, State, state_of, none_yet, normal_at, point_at, corner_at, deleted_at}
 use Rattle.epa_polytope.specs.Steps.{Numbers, Out, onward, ended}
 use Rattle.epa_polytope.specs.Start.{World, VoronoiSimplex}

@@ -9,7 +9,7 @@ use Rattle.projection.specs.Triangle.{is_affinely_dependent}
 use Rattle.epa_polytope.specs.Stores.{Lists, State, Tally, state_of, with_face_ids, with_deleted, with_edges, with_pending, edge_count, pending_count, most_count, missed_count}
 use Rattle.epa_polytope.specs.Stores.{room_for, the_edges, the_pending, vertex_at, normal_of, corner_in}
 use Rattle.epa_polytope.specs.Stores.{linked_in, point_at, normal_at, corner_at, deleted_at}
-use Rattle.epa_polytope.specs.Silhouette.{Question, WalkAnswer, Done, NoRoom, Mesh, walked, facing, with_missed, pass, recorded_of}
+use Rattle.epa_polytope.specs.Silhouette.{Question, WalkAnswer, Ok, Err, Mesh, walked, facing, with_missed, pass, recorded_of}
 use Rattle.epa_polytope.specs.PlainWalk.{Walking, walking, plain_pass}
 use Rattle.epa_polytope.specs.Start.{Walk, recursive, plain}
 use Rattle.epa_polytope.specs.Steps.{Numbers, three, Out, onward, ended, Act, Nil, ◌>>=◌, ◌>>◌, look, put, ok, stop_if, do_if, branch, nothing, no_room}
@@ -44,8 +44,8 @@ after_pass s t n =
 -- the run goes on, unless there was no place for a question, or none for an edge
 abbrev pub passed_if : Bool → WalkAnswer → State → Out Nil
 passed_if true a t = ended (no_room the_pending) t
-passed_if false (Done n) t = onward tt t
-passed_if false NoRoom t = ended (no_room the_edges) t
+passed_if false (Ok n) t = onward tt t
+passed_if false (Err e) t = ended (no_room the_edges) t
 
 abbrev pub passed : State → Walking → Out Nil
 passed s t = passed_if t.short t.walk.answer (after_pass s t (recorded_of (room_for the_edges s.lists) t.walk.answer))
@@ -58,7 +58,7 @@ mesh_of w l point = record { ids = l.face_ids; seen = can_be_seen_by w.format l 
 abbrev pub before_pass : State → ℕ → Walking
 before_pass s i =
     let ids = s.lists.face_ids in
-    walking (walked s.lists.deleted s.lists.edges (with_missed ids i 2 (with_missed ids i 1 (with_missed ids i 0 s.tally.missed))) (Done 0)) s.lists.pending 0 false
+    walking (walked s.lists.deleted s.lists.edges (with_missed ids i 2 (with_missed ids i 1 (with_missed ids i 0 s.tally.missed))) (Ok 0)) s.lists.pending 0 false
 
 -- a pass by either walk; the recursive one holds no question
 unfoldable pub pass_by : Walk → Mesh → Walking → Question → Question → Question → Walking

@@ -1,5 +1,5 @@
 -- What a face is made of, by its three corners: `Face::new` and `Face::new_with_proj` of src/query/epa/epa3.rs, with `ccw_face_normal` of src/utils. Definitions only.
-use Rattle.std.specs.Prelude.{Bool, true, false}
+use Rattle.std.specs.Prelude.{Bool, true, false, Option, Some, None, Result, Ok, Err}
 use Rattle.std.specs.Float.{Format}
 use Rattle.number.specs.Constants.{polytope_tol}
 use Rattle.vector.specs.declared.vec3.Vec3.{Vec3}
@@ -9,13 +9,14 @@ use Rattle.projection.specs.declared.triangle.TrianglePointLocation.TheVariants.
 use Rattle.projection.specs.declared.triangle.BarycentricCoordinates.{BarycentricCoordinates}
 use Rattle.projection.specs.Triangle.{project_triangle, barycentric_coordinates}
 use Rattle.projection.specs.Inside.{within_origin}
+use Rattle.refusal.specs.declared.WouldPanic.{WouldPanic}
 use Rattle.epa_polytope.specs.declared.types.Made.{Made}
 
 -- `barycentric_coordinates().unwrap()`. It never panics (`never-unwraps-none` of the crate `projection`). Solid has zeros.
-unfoldable pub weights_or : BarycentricCoordinates → Vec3
-weights_or (BarycentricCoordinates.Some u v w) = vec3 u v w
-weights_or BarycentricCoordinates.None = zero_v
-weights_or BarycentricCoordinates.Refused = zero_v
+unfoldable pub weights_or : Result (Option BarycentricCoordinates) WouldPanic → Vec3
+weights_or (Ok (Some b)) = vec3 b.u b.v b.w
+weights_or (Ok None) = zero_v
+weights_or (Err e) = zero_v
 
 -- whether the face holds the projection: it does at a location inside, not where it is solid, and at a corner or on an edge if that lies at the origin
 unfoldable pub holds_at : Bool → TrianglePointLocation → Bool

@@ -1,7 +1,7 @@
 -- The silhouette walk without recursion (document 02, ticket 6): a loop over a lent store of pending questions, last in, first out, over any test of which faces are seen. A question is answered as by
 -- `compute_silhouette` of src/query/epa/epa3.rs (Silhouette.antt), but that the two which follow from a seen face are put in and not asked at once. Definitions only.
 use Rattle.std.specs.Prelude.{ℕ, zero, suc, ◌+◌, ◌*◌, ◌/◌, ◌%◌, List, Bool, true, false, length, get_or, set, eqb, ltb}
-use Rattle.epa_polytope.specs.Silhouette.{Question, WalkAnswer, Done, NoRoom, Mesh, Walked, walked, facing, pair_put, noted, entered, zeros}
+use Rattle.epa_polytope.specs.Silhouette.{Question, WalkAnswer, Ok, Err, Mesh, Walked, walked, facing, pair_put, noted, entered, zeros}
 pub use Rattle.epa_polytope.specs.declared.types.PlainSoFar.{PlainSoFar}
 
 -- what a plain walk changes: what the recursive one does, and the pending questions, two numbers each, of which so many are held; and whether there was no place for one
@@ -50,9 +50,9 @@ answer_question m s n q = answer_if (eqb (get_or s.walk.deleted q.face 1) 0) (m.
 
 -- a turn of the loop: nothing is done where no question is held, or the walk has found no room for a question or for an edge
 abbrev pub turn_by : Bool → WalkAnswer → ℕ → Mesh → Walking → Walking
-turn_by false (Done n) (suc h) m s = answer_question m (walking s.walk (without s.pending h) h false) n (question_at s.pending h)
-turn_by false (Done n) zero m s = s
-turn_by false NoRoom h m s = s
+turn_by false (Ok n) (suc h) m s = answer_question m (walking s.walk (without s.pending h) h false) n (question_at s.pending h)
+turn_by false (Ok n) zero m s = s
+turn_by false (Err e) h m s = s
 turn_by true a h m s = s
 
 unfoldable pub turn : Mesh → Walking → Walking

@@ -1,20 +1,19 @@
 -- The one form of the contracts: what a function leaves and answers is what a step of the run does. Definitions only.
 -- A function that is lent some of the lists does so whatever the others hold: its contract is for all k : Lists, of k with the lent lists in their places.
-use Rattle.std.specs.Prelude.{Bool, true, false, ◌≡◌, List, ℕ, Float}
+use Rattle.std.specs.Prelude.{Bool, true, false, ◌≡◌, List, ℕ, Float, Result, Ok, Err}
 use Rattle.std.specs.Borrow.{MutBor}
 use denote.Triple.Both.{Both}
 use Rattle.vector.specs.declared.pose.Pose.{Pose}
 use Rattle.shape.specs.declared.support.Shape.{Shape}
-use Rattle.heap.specs.Heap.{Entry, entry}
+use Rattle.heap.specs.declared.Entry.{Entry}
+use Rattle.heap.specs.Heap.{entry}
 use Rattle.std.specs.Float.{binary32}
-use Rattle.epa_polytope.specs.declared.types.Step.{Step}
-use Rattle.epa_polytope.specs.declared.types.Step.TheVariants.{Onward, Ended}
 use Rattle.epa_polytope.specs.declared.types.Begun.{Begun}
 use Rattle.epa_polytope.specs.declared.types.Visited.{Visited}
 use Rattle.epa_polytope.specs.declared.types.Finish.{Finish}
 use Rattle.epa_polytope.specs.declared.types.FaceId.{FaceId}
 use Rattle.epa_polytope.specs.Stores.{Lists, Tally, state_of, with_pending, lend}
-use Rattle.epa_polytope.specs.Steps.{Numbers, numbers_of, Out, onward, ended, Act, Nil, Over}
+use Rattle.epa_polytope.specs.Steps.{Numbers, numbers_of, End, Out, onward, ended, Act, Nil, Over}
 use Rattle.epa_polytope.specs.Start.{Walk, recursive, plain, World, world_of, walked_as}
 use Rattle.epa_polytope.specs.Run.{Best}
 
@@ -40,20 +39,27 @@ walk_of false = recursive
 pub record Does {A R : Type 0} (out : Lists → R → Out A) (a : Act A) (l : Lists) (c : Tally) (l' : Lists) (r : R) : Type 0 where
   pub same : out l' r ≡ a (state_of l c)
 
+-- how the run ended, and how far it came: the code's refusal to go on
+abbrev pub finish : End → Tally → Finish
+finish e c = record { end = e; tally = c }
+
 -- of an answer that is no more than the tally, or the run's end
+abbrev pub Step : Type 0
+Step = Result Tally Finish
+
 abbrev pub step_out : Lists → Step → Out Nil
-step_out l (Onward c) = onward tt (state_of l c)
-step_out l (Ended e c) = ended e (state_of l c)
+step_out l (Ok c) = onward tt (state_of l c)
+step_out l (Err x) = ended x.end (state_of l x.tally)
 
 -- of the start's, which goes on with the tolerance of the keys
-abbrev pub begin_out : Lists → Begun → Out Float
-begin_out l (Begun.Ready tol c) = onward tol (state_of l c)
-begin_out l (Begun.Ended e c) = ended e (state_of l c)
+abbrev pub begin_out : Lists → Result Begun Finish → Out Float
+begin_out l (Ok b) = onward b.tol (state_of l b.tally)
+begin_out l (Err x) = ended x.end (state_of l x.tally)
 
 -- of an expansion's, which goes on with what is carried to the next
-abbrev pub visit_out : Lists → Visited → Out Best
-visit_out l (Visited.Next b c) = onward b (state_of l c)
-visit_out l (Visited.Ended e c) = ended e (state_of l c)
+abbrev pub visit_out : Lists → Result Visited Finish → Out Best
+visit_out l (Ok v) = onward v.best (state_of l v.tally)
+visit_out l (Err x) = ended x.end (state_of l x.tally)
 
 -- of a whole run's, which only ends
 abbrev pub finish_out : Lists → Finish → Out Over

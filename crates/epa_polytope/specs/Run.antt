@@ -1,6 +1,6 @@
 -- The run of the polytope, `EPA::closest_points` of src/query/epa/epa3.rs: the start, and the loop that expands. Any format, any support function. Definitions only.
 use Rattle.std.specs.Prelude.{ℕ, zero, suc, ◌+◌, Bool, cond, ◌&&◌, eqb, Float}
-use Rattle.std.proofs.Math.Option.{Option, none, some}
+use Rattle.std.specs.Prelude.{Option, None, Some}
 use Rattle.std.specs.Float.{Format}
 use Rattle.std.specs.Float.Ieee.{lt, neg}
 use Rattle.number.specs.Constants.{epsilon, polytope_tol, largest}
@@ -8,7 +8,8 @@ use Rattle.number.specs.Small.{absolute}
 use Rattle.vector.specs.declared.vec3.Vec3.{Vec3}
 use Rattle.vector.specs.Vector.{zero_f, dot_v, ◌⊖◌}
 use Rattle.shape.specs.declared.vertex.Vertex.{Vertex}
-use Rattle.heap.specs.Heap.{Entry, entry_at, popped}
+use Rattle.heap.specs.declared.Entry.{Entry}
+use Rattle.heap.specs.Heap.{entry_at, popped}
 use Rattle.epa_polytope.specs.Stores.{Lists, state_of, with_heap, heap_count, done_count, none_yet, normal_at, deleted_at, heap_of}
 use Rattle.epa_polytope.specs.Steps.{numbers_of, Out, Act, Nil, Over, ◌>>=◌, ◌>>◌, pure, look, put, do_if, branch, converged, stuck, enough_expansions, heap_empty, push_vertex, answer}
 use Rattle.epa_polytope.specs.Start.{Walk, World, format_of, VoronoiSimplex, begin}
@@ -27,11 +28,11 @@ pop_entry n = do
 
 -- `if face.deleted { continue }`: entries go out until one is of a live face, of a heap of n
 unfoldable pub pop_live : ℕ → Act (Option Entry)
-pop_live zero = pure none
+pop_live zero = pure None
 pop_live (suc n) = do
   e ← pop_entry n
   s ← look
-  branch (eqb (deleted_at s e.face) 0) (pure (some e)) (pop_live n)
+  branch (eqb (deleted_at s e.face) 0) (pure (Some e)) (pop_live n)
 
 -- ---- a face that was popped
 
@@ -68,8 +69,8 @@ visit w tol b e = do
   settle w tol b e s.tally.vertices (dot_v (format_of w) v.point normal)
 
 abbrev pub visit_if : World → Float → Best → Option Entry → Act Best
-visit_if w tol b none = answer w.numbers heap_empty b.face
-visit_if w tol b (some e) = visit w tol b e
+visit_if w tol b None = answer w.numbers heap_empty b.face
+visit_if w tol b (Some e) = visit w tol b e
 
 -- ---- the loop
 

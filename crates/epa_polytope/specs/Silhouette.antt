@@ -1,13 +1,19 @@
 -- The silhouette walk: `compute_silhouette` of src/query/epa/epa3.rs with `next_ccw_pt_id`, over any test of which faces are seen. Definitions only.
 use Rattle.std.specs.Prelude.{ℕ, zero, suc, ◌+◌, ◌*◌, ◌/◌, ◌%◌, ◌^◌, List, [], ◌∷◌, Bool, true, false, cond, length, get_or, set, eqb, ltb}
 use Rattle.epa_polytope.specs.Stores.{corner_in, neighbour_in, one_if_zero}
-pub use Rattle.epa_polytope.specs.declared.types.WalkAnswer.{WalkAnswer}
-pub use Rattle.epa_polytope.specs.declared.types.WalkAnswer.TheVariants.{Done, NoRoom}
+pub use Rattle.std.specs.Prelude.{Option, Some, None, Result, Ok, Err}
+use Rattle.refusal.specs.Refusal.{no_room}
+use Rattle.refusal.specs.declared.NoRoom.{NoRoom}
 pub use Rattle.epa_polytope.specs.declared.types.WalkSoFar.{WalkSoFar}
 pub use Rattle.epa_polytope.specs.declared.types.Question.{Question}
 pub use Rattle.epa_polytope.specs.declared.types.Facing.{Facing}
-pub use Rattle.epa_polytope.specs.declared.types.Lookup.{Lookup}
-pub use Rattle.epa_polytope.specs.declared.types.Lookup.TheVariants.{FoundAt, Missing}
+
+-- how a walk ends: with the number of edges that are now recorded, or for want of room
+abbrev pub WalkAnswer : Type 0
+WalkAnswer = Result ℕ NoRoom
+
+abbrev pub full : WalkAnswer
+full = Err no_room
 
 -- what a walk only reads: the faces' corners and neighbours, and which questions find a face seen
 pub record Mesh : Type 0 where
@@ -31,23 +37,23 @@ walked_by deleted edges r = walked deleted edges r.missed r.answer
 -- ---- the lookups
 
 -- `next_ccw_pt_id`: the corner after that of the face f which is the vertex p. Where none is, the Rust logs a line
-unfoldable pub next_ccw_pt_id : List ℕ → ℕ → ℕ → Lookup
+unfoldable pub next_ccw_pt_id : List ℕ → ℕ → ℕ → Option ℕ
 next_ccw_pt_id ids f p =
-    cond (eqb (corner_in ids f 0) p) (FoundAt 1)
-    (cond (eqb (corner_in ids f 1) p) (FoundAt 2)
-    (cond (eqb (corner_in ids f 2) p) (FoundAt 0) Missing))
+    cond (eqb (corner_in ids f 0) p) (Some 1)
+    (cond (eqb (corner_in ids f 1) p) (Some 2)
+    (cond (eqb (corner_in ids f 2) p) (Some 0) None))
 
 -- the corner that a run goes on with: 0, where the lookup missed
-abbrev pub corner_or0 : Lookup → ℕ
-corner_or0 (FoundAt k) = k
-corner_or0 Missing = 0
+abbrev pub corner_or0 : Option ℕ → ℕ
+corner_or0 (Some k) = k
+corner_or0 None = 0
 
-abbrev pub misses : Lookup → ℕ
-misses (FoundAt k) = 0
-misses Missing = 1
+abbrev pub misses : Option ℕ → ℕ
+misses (Some k) = 0
+misses None = 1
 
 -- the vertex k of the face f, looked up in its neighbour there
-abbrev pub lookup : List ℕ → ℕ → ℕ → Lookup
+abbrev pub lookup : List ℕ → ℕ → ℕ → Option ℕ
 lookup ids f k = next_ccw_pt_id ids (neighbour_in ids f k) (corner_in ids f k)
 
 -- the question to that neighbour
@@ -69,8 +75,8 @@ abbrev pub pair_put : List ℕ → ℕ → Question → List ℕ
 pair_put l n q = set (set l (n * 2) q.face) (n * 2 + 1) q.corner
 
 abbrev pub noted_if : Bool → Walked → ℕ → Question → Walked
-noted_if true s n q = walked s.deleted (pair_put s.edges n q) s.missed (Done (n + 1))
-noted_if false s n q = walked s.deleted s.edges s.missed NoRoom
+noted_if true s n q = walked s.deleted (pair_put s.edges n q) s.missed (Ok (n + 1))
+noted_if false s n q = walked s.deleted s.edges s.missed full
 
 abbrev pub noted : Walked → ℕ → Question → Walked
 noted s n q = noted_if (ltb n (length s.edges / 2)) s n q
@@ -84,10 +90,10 @@ entered m s q =
 -- A question, where `go` asks those that follow from it. A walk that has found no room does nothing more; a deleted face does nothing; a live face that is not seen is an edge; one that is seen is
 -- deleted, and its two other neighbours are asked, in order
 abbrev pub ask_if : WalkAnswer → Bool → Bool → Mesh → (Walked → Question → Walked) → Walked → Question → Walked
-ask_if NoRoom live seen m go s q = s
-ask_if (Done n) false seen m go s q = s
-ask_if (Done n) true false m go s q = noted s n q
-ask_if (Done n) true true m go s q =
+ask_if (Err e) live seen m go s q = s
+ask_if (Ok n) false seen m go s q = s
+ask_if (Ok n) true false m go s q = noted s n q
+ask_if (Ok n) true true m go s q =
     go (go (entered m s q) (facing m.ids q.face ((q.corner + 2) % 3))) (facing m.ids q.face q.corner)
 
 unfoldable pub ask : Mesh → (Walked → Question → Walked) → Walked → Question → Walked
@@ -100,8 +106,8 @@ walk_in (suc n) m s q = ask m (walk_in n m) s q
 
 -- how many edges a walk has recorded: as many as there is room for, where it found none for one more
 abbrev pub recorded_of : ℕ → WalkAnswer → ℕ
-recorded_of room (Done n) = n
-recorded_of room NoRoom = room
+recorded_of room (Ok n) = n
+recorded_of room (Err e) = room
 
 -- how many places of a list are zero
 unfoldable pub zeros : List ℕ → ℕ

@@ -1,6 +1,6 @@
 -- The start of a run, "Initialization" of `EPA::closest_points` of src/query/epa/epa3.rs: the vertices of the simplex, the tolerance of the keys, and the first faces. Definitions only.
 use Rattle.std.specs.Prelude.{ℕ, zero, suc, ◌+◌, Bool, cond, not, ◌||◌, List, eqb, Float}
-use Rattle.std.proofs.Math.Option.{Option, none, some}
+use Rattle.std.specs.Prelude.{Option, None, Some}
 use Rattle.std.specs.Float.{Format}
 use Rattle.std.specs.Float.Ieee.{neg}
 use Rattle.number.specs.Constants.{eps_tol}
@@ -58,15 +58,15 @@ far_from f p v = gt (length_squared_v f (sub_v f v.point p)) (◌⊗◌ f (eps_t
 
 -- `find_map`: the vertex of the first of n directions, from the i-th on, that lies far enough from p
 unfoldable pub first_far : World → Vec3 → ℕ → ℕ → Option Vertex
-first_far w p zero i = none
+first_far w p zero i = None
 first_far w p (suc n) i =
     let v = w.supp (direction i) in
     let rest = first_far w p n (i + 1) in
-    cond (far_from (format_of w) p v) (some v) rest
+    cond (far_from (format_of w) p v) (Some v) rest
 
 abbrev pub second : Vertex → Option Vertex → Act Nil
-second v none = stop (answers single_point v.orig1 v.orig2 y_v)
-second v (some p) = push_vertex p
+second v None = stop (answers single_point v.orig1 v.orig2 y_v)
+second v (Some p) = push_vertex p
 
 -- a single vertex gets a second one
 unfoldable pub bootstrap : World → Act Nil

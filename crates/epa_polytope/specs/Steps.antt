@@ -1,7 +1,7 @@
 -- The steps of a run, and the pushes that all of it is made of: of src/query/epa/epa3.rs the `push` of vertices, faces and heap, `FaceId::new`, and `Face::closest_points`. Definitions only.
 -- A step takes the state, and goes on with a value and the state that it leaves, or ends the run. In a `do` block each line is a step, in order: `s ← look` names the state as it is at that line,
 -- `put t` makes t the state, `stop_if b e` ends the run with e if b holds, and no later line is taken; `do_if` is if, `branch` if-else, `>>` then, and `pure x` hands x on.
-use Rattle.std.specs.Prelude.{ℕ, ◌+◌, Bool, true, false, cond, set, leb, Float}
+use Rattle.std.specs.Prelude.{ℕ, ◌+◌, Bool, true, false, cond, set, leb, Float, Option, Some, None}
 use Rattle.std.specs.Float.{Format}
 use Rattle.number.specs.Small.{gt}
 use Rattle.vector.specs.declared.vec3.Vec3.{Vec3}
@@ -12,7 +12,7 @@ use Rattle.epa_polytope.specs.Face.{face_new}
 use Rattle.epa_polytope.specs.Stores.{Lists, State, state_of, with_vertices, with_face_ids, with_face_floats, with_deleted, with_heap, vertex_count, face_count, heap_count}
 use Rattle.epa_polytope.specs.Stores.{Made, Three, the_vertices, the_faces, the_heap}
 use Rattle.epa_polytope.specs.Stores.{room_for, vertex_at, put_vertex, put_made, put_face, normal_of, weights_of, corner_in, point_at, heap_of}
-use Rattle.epa_polytope.specs.declared.types.MaybeFaceId.{MaybeFaceId}
+use Rattle.epa_polytope.specs.declared.types.FaceId.{FaceId}
 pub use Rattle.epa_polytope.specs.declared.types.Found.{Found}
 pub use Rattle.epa_polytope.specs.declared.types.Found.TheVariants.{SinglePoint as single_point, Converged as converged, Stuck as stuck, NewFaceNearer as new_face_nearer}
 pub use Rattle.epa_polytope.specs.declared.types.Found.TheVariants.{EnoughExpansions as enough_expansions, HeapEmpty as heap_empty}
@@ -130,8 +130,8 @@ enqueue id neg_dist = do
   put (state_of (with_heap h.faces h.keys s.lists) (heap_count h.count s.tally))
 
 -- `FaceId::new`: none, for a key above the tolerance
-unfoldable pub face_id_new : ℕ → Float → Float → MaybeFaceId
-face_id_new id neg_dist tol = cond (gt neg_dist tol) MaybeFaceId.None (MaybeFaceId.Some (record { id = id; neg_dist = neg_dist }))
+unfoldable pub face_id_new : ℕ → Float → Float → Option FaceId
+face_id_new id neg_dist tol = cond (gt neg_dist tol) None (Some (record { id = id; neg_dist = neg_dist }))
 
 -- `self.heap.push(FaceId::new(id, neg_dist, tol)?)`: a key above the tolerance is refused
 unfoldable pub queue_face : Lost → Float → ℕ → Float → Act Nil

@@ -5,7 +5,6 @@
 mod types;
 
 pub use types::{
-    Begun, Best, End, Expansion, FaceId, Facing, Finish, Found, Lookup, Lost, Made, MaybeFaceId,
-    MaybeVertex, PlainSoFar, Popped, Question, Site, Step, Store, Tally, Three, Visited, Walk,
-    WalkAnswer, WalkSoFar,
+    Begun, Best, End, Expansion, FaceId, Facing, Finish, Found, Lost, Made, PlainSoFar, Popped,
+    Question, Site, Store, Tally, Three, Visited, Walk, WalkSoFar,
 };

@@ -1,6 +1,6 @@
 // What the polytope's run passes from hand to hand: questions of the walk, what a face is made of, how far
 // it has come, and how it ends. By value, but for the stores, which the caller lends.
-use shape::Vertex;
+use refusal::NoRoom;
 use vector::Vec3;
 
 // A face, and a corner of it: whether the face is seen, asked across the side that the corner lies opposite
@@ -11,13 +11,6 @@ pub struct Question {
     pub corner: usize,
 }
 
-// Whether a face has a vertex: at the corner before this one, or at none (what `next_ccw_pt_id` finds).
-#[derive(Clone, Copy)]
-pub enum Lookup {
-    FoundAt(usize),
-    Missing,
-}
-
 // The question to a neighbour, and how many lookups of the run have missed.
 #[derive(Clone, Copy)]
 pub struct Facing {
@@ -25,31 +18,26 @@ pub struct Facing {
     pub missed: usize,
 }
 
-// How a walk ends: with the number of edges that are now recorded, or for want of room.
-#[derive(Clone, Copy)]
-pub enum WalkAnswer {
-    Done(usize),
-    NoRoom,
-}
-
-// How far a walk has come: how it would end here, and how many lookups of the run have missed.
+// How far a walk has come: how it would end here, with the number of edges that are now recorded or for want of room, and
+// how many lookups of the run have missed.
 #[derive(Clone, Copy)]
 pub struct WalkSoFar {
-    pub answer: WalkAnswer,
+    pub answer: Result<usize, NoRoom>,
     pub missed: usize,
 }
 
-// How far a plain walk has come: the same, the questions that are held, and whether there was no place for one.
+// How far a plain walk has come: the same, the questions that are held, and whether there was no place for one. That is
+// no error in the answer's place, since the edges recorded until then are counted all the same (`recorded_of`).
 #[derive(Clone, Copy)]
 pub struct PlainSoFar {
-    pub answer: WalkAnswer,
+    pub answer: Result<usize, NoRoom>,
     pub missed: usize,
     pub held: usize,
     pub short: bool,
 }
 
-// Which walk a run uses: the Rust's own, or the one without recursion. The definitions have it; the code has a `bool`
-// for it, and `pass_by` of epa_plain_walk says why.
+// Which walk a run uses: the Rust's own, or the one without recursion. The definitions have it; the code has a const
+// parameter for it, and `pass_by` of epa_plain_walk says why.
 #[derive(Clone, Copy)]
 pub enum Walk {
     Recursive,
@@ -148,31 +136,25 @@ pub enum End {
     NoRoom(Store),
 }
 
-// After a step: the run goes on, or has ended.
-#[derive(Clone, Copy)]
-pub enum Step {
-    Onward(Tally),
-    Ended(End, Tally),
-}
-
-// After the start: the run has its first faces, and goes on with the tolerance of its keys; or it has ended.
-#[derive(Clone, Copy)]
-pub enum Begun {
-    Ready(f32, Tally),
-    Ended(End, Tally),
-}
-
-// After an expansion: the run goes on with what is carried to the next one, or has ended.
-#[derive(Clone, Copy)]
-pub enum Visited {
-    Next(Best, Tally),
-    Ended(End, Tally),
-}
-
-// How a run ended, and how far it came.
+// How a run ended, and how far it came: the `Err` of each step. Its `Ok` is how far the run has come, with what it goes on
+// with.
 #[derive(Clone, Copy)]
 pub struct Finish {
     pub end: End,
+    pub tally: Tally,
+}
+
+// After the start: the run has its first faces, and goes on with the tolerance of its keys.
+#[derive(Clone, Copy)]
+pub struct Begun {
+    pub tol: f32,
+    pub tally: Tally,
+}
+
+// After an expansion: the run goes on with what is carried to the next one.
+#[derive(Clone, Copy)]
+pub struct Visited {
+    pub best: Best,
     pub tally: Tally,
 }
 
@@ -181,13 +163,6 @@ pub struct Finish {
 pub struct FaceId {
     pub id: usize,
     pub neg_dist: f32,
-}
-
-// The Rust's `Option<FaceId>`, of a key that may be refused and of a heap that may be empty.
-#[derive(Clone, Copy)]
-pub enum MaybeFaceId {
-    Some(FaceId),
-    None,
 }
 
 // What is known of an expansion under way: the face that is expanded, its distance, the new vertex, and the
@@ -209,16 +184,9 @@ pub struct Best {
     pub last: f32,
 }
 
-// The Rust's `Option<CsoPoint>`.
-#[derive(Clone, Copy)]
-pub enum MaybeVertex {
-    Some(Vertex),
-    None,
-}
-
 // The entry of a live face that was popped, or none, and how far the run has come.
 #[derive(Clone, Copy)]
 pub struct Popped {
-    pub entry: MaybeFaceId,
+    pub entry: Option<FaceId>,
     pub tally: Tally,
 }

@@ -3,44 +3,40 @@
 // `epa_polytope` defines.
 #![tactic(auto)]
 
-ghost use Rattle.std.specs.Prelude.{◌≡◌, cond, ◌+◌, ◌*◌, ◌≤◌, min, length};
-ghost use Rattle.epa_polytope.specs.declared.types.End.TheVariants.{NoRoom};
-ghost use Rattle.epa_polytope.specs.declared.types.Step.TheVariants.{Onward, Ended};
-ghost use Rattle.epa_polytope.specs.declared.types.Store.TheVariants.{Faces};
-ghost use Rattle.epa_polytope.specs.Stores.{with_vertices, with_face_ids, with_face_floats, with_deleted, with_heap, face_room, put_face, face_count};
+ghost use Rattle.std.specs.Prelude.{◌≡◌, ◌+◌, ◌*◌, ◌≤◌, length};
+ghost use Rattle.epa_polytope.specs.Stores.{face_room, put_face};
 ghost use Rattle.epa_polytope.specs.Steps.{push_vertex, push_face, enqueue, face_id_new, queue_face};
-ghost use Rattle.epa_polytope.specs.Promises.{Reads, Leaves, when};
+ghost use Rattle.epa_stores.specs.Lent.{held, LeavesAll, Kept};
 
-use epa_polytope::{End, FaceId, Lost, Made, MaybeFaceId, Step, Store, Tally, Three};
-use epa_stores::{put_made, put_vertex, set_deleted};
-use heap::Pushed;
+use epa_polytope::{End, FaceId, Finish, Lost, Made, Store, Tally, Three};
+use epa_stores::{Stores, put_made, put_vertex, set_deleted};
 use shape::Vertex;
 
 // A vertex is pushed, where there is room.
-pub fn push_vertex(vertices: &mut [f32], tally: Tally, v: Vertex) -> Step
-    ensures { Leaves (push_vertex v) tally result (λ m k. with_vertices (when m vertices) k) }
+pub fn push_vertex(stores: &mut Stores<'_>, tally: Tally, v: Vertex) -> Result<Tally, Finish>
+    ensures leaves { LeavesAll (push_vertex v) tally result stores }
+    ensures kept { Kept stores }
 {
     let n = tally.vertices;
-    if vertices.len() / 9 <= n {
-        return Step::Ended(End::NoRoom(Store::Vertices), tally);
+    if stores.vertices.len() / 9 <= n {
+        let end = End::NoRoom(Store::Vertices);
+        return Err(Finish { end, tally });
     }
-    put_vertex(vertices, n, v);
-    let mut next = tally;
-    next.vertices = n + 1;
-    Step::Onward(next)
-}
-
-fn smaller(a: usize, b: usize) -> usize
-    ensures { result ≡ min a b }
-{
-    if a < b { a } else { b }
+    put_vertex(stores.vertices, n, v);
+    Ok(Tally {
+        vertices: n + 1,
+        ..tally
+    })
 }
 
 // For how many faces there is room.
-fn face_room(ids: &[usize], floats: &[f32], deleted: &[u8]) -> usize
-    ensures { Reads face_room result (λ k. with_face_ids ids.now (with_face_floats floats.now (with_deleted deleted.now k))) }
+fn face_room(stores: &Stores<'_>) -> usize
+    ensures { result ≡ face_room (held stores.now) }
 {
-    smaller(smaller(ids.len() / 6, floats.len() / 6), deleted.len())
+    let places = stores.ids.len() / 6;
+    places
+        .min(stores.floats.len() / 6)
+        .min(stores.deleted.len())
 }
 
 // A face's six numbers are written at the place n, which the list has.
@@ -57,92 +53,74 @@ fn put_face(ids: &mut [usize], n: usize, corners: Three, neighbours: Three)
     ids[at + 5] = neighbours.c;
 }
 
-// A live face is written at the place n, if there is room for it, and the answer is whether there is: `push_face` but for the tally, whatever
-// that is. A caller that pushes many faces keeps their count itself.
-pub fn write_face(
-    ids: &mut [usize],
-    floats: &mut [f32],
-    deleted: &mut [u8],
-    n: usize,
-    corners: Three,
-    neighbours: Three,
-    made: Made,
-) -> bool
-    ensures { (c : Tally) → Leaves (push_face corners neighbours made) (face_count n c) (cond result (Onward (face_count (n + 1) c)) (Ended (NoRoom Faces) (face_count n c)))
-        (λ m k. with_face_ids (when m ids) (with_face_floats (when m floats) (with_deleted (when m deleted) k))) }
-{
-    if face_room(ids, floats, deleted) <= n {
-        return false;
-    }
-    put_face(ids, n, corners, neighbours);
-    put_made(floats, n, made);
-    set_deleted(deleted, n, 0);
-    true
-}
-
 // A live face is pushed, where there is room.
 pub fn push_face(
-    ids: &mut [usize],
-    floats: &mut [f32],
-    deleted: &mut [u8],
+    stores: &mut Stores<'_>,
     tally: Tally,
     corners: Three,
     neighbours: Three,
     made: Made,
-) -> Step
-    ensures { Leaves (push_face corners neighbours made) tally result (λ m k. with_face_ids (when m ids) (with_face_floats (when m floats) (with_deleted (when m deleted) k))) }
+) -> Result<Tally, Finish>
+    ensures leaves { LeavesAll (push_face corners neighbours made) tally result stores }
+    ensures kept { Kept stores }
 {
     let n = tally.faces;
-    if !write_face(ids, floats, deleted, n, corners, neighbours, made) {
-        return Step::Ended(End::NoRoom(Store::Faces), tally);
+    if face_room(stores) <= n {
+        let end = End::NoRoom(Store::Faces);
+        return Err(Finish { end, tally });
     }
-    let mut next = tally;
-    next.faces = n + 1;
-    Step::Onward(next)
+    put_face(stores.ids, n, corners, neighbours);
+    put_made(stores.floats, n, made);
+    set_deleted(stores.deleted, n, 0);
+    Ok(Tally {
+        faces: n + 1,
+        ..tally
+    })
 }
 
 // A face is queued by its key, where there is room.
 pub fn enqueue(
-    heap_ids: &mut [usize],
-    heap_keys: &mut [f32],
+    stores: &mut Stores<'_>,
     tally: Tally,
     id: usize,
     neg_dist: f32,
-) -> Step
-    ensures { Leaves (enqueue id neg_dist) tally result (λ m k. with_heap (when m heap_ids) (when m heap_keys) k) }
+) -> Result<Tally, Finish>
+    ensures leaves { LeavesAll (enqueue id neg_dist) tally result stores }
+    ensures kept { Kept stores }
 {
-    let Pushed::Done(count) = heap::push(heap_ids, heap_keys, tally.heap, id, neg_dist) else {
-        return Step::Ended(End::NoRoom(Store::Heap), tally);
+    let pushed = heap::push(stores.heap_ids, stores.heap_keys, tally.heap, id, neg_dist);
+    let Ok(heap) = pushed else {
+        let end = End::NoRoom(Store::Heap);
+        return Err(Finish { end, tally });
     };
-    let mut next = tally;
-    next.heap = count;
-    Step::Onward(next)
+    Ok(Tally { heap, ..tally })
 }
 
 // `FaceId::new`: a key above the tolerance is refused. A NaN is not above it.
-pub fn face_id_new(id: usize, neg_dist: f32, tol: f32) -> MaybeFaceId
+pub fn face_id_new(id: usize, neg_dist: f32, tol: f32) -> Option<FaceId>
     ensures { result ≡ face_id_new id neg_dist tol }
 {
     if neg_dist > tol {
-        return MaybeFaceId::None;
+        return None;
     }
-    MaybeFaceId::Some(FaceId { id, neg_dist })
+    Some(FaceId { id, neg_dist })
 }
 
 // `self.heap.push(FaceId::new(id, neg_dist, tol)?)`.
 pub fn queue_face(
-    heap_ids: &mut [usize],
-    heap_keys: &mut [f32],
+    stores: &mut Stores<'_>,
     tally: Tally,
     why: Lost,
     tol: f32,
     id: usize,
     neg_dist: f32,
-) -> Step
-    ensures { Leaves (queue_face why tol id neg_dist) tally result (λ m k. with_heap (when m heap_ids) (when m heap_keys) k) }
+) -> Result<Tally, Finish>
+    ensures leaves { LeavesAll (queue_face why tol id neg_dist) tally result stores }
+    ensures kept { Kept stores }
 {
-    let MaybeFaceId::Some(face) = face_id_new(id, neg_dist, tol) else {
-        return Step::Ended(End::Nothing(why), tally);
+    let Some(face) = face_id_new(id, neg_dist, tol) else {
+        let end = End::Nothing(why);
+        return Err(Finish { end, tally });
     };
-    enqueue(heap_ids, heap_keys, tally, face.id, face.neg_dist)
+    enqueue(stores, tally, face.id, face.neg_dist)
 }

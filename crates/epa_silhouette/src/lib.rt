@@ -2,15 +2,16 @@
 // records an edge at each live face that is not. How many faces are live falls with each that is seen.
 #![tactic(auto)]
 
-ghost use Rattle.std.specs.Prelude.{◌≡◌};
+ghost use Rattle.std.specs.Prelude.{◌≡◌, Ok};
 ghost use Rattle.epa_polytope.specs.Stores.{with_vertices, with_face_ids, with_face_floats};
 ghost use Rattle.epa_polytope.specs.Silhouette.{walked, walked_by, noted, walk, pass};
 ghost use Rattle.epa_polytope.specs.Expansion.{mesh_of};
 ghost use Rattle.epa_polytope.specs.Promises.{Reads, single};
 
 use epa_faces::{can_be_seen_by, facing_at};
-use epa_polytope::{Question, WalkAnswer, WalkSoFar};
-use epa_stores::{deleted_at, set_deleted, set_pair_at};
+use epa_polytope::{Question, WalkSoFar};
+use epa_stores::{deleted_at, put_question, set_deleted};
+use refusal::NoRoom;
 
 // An edge is recorded, if there is room.
 pub fn note(
@@ -20,21 +21,15 @@ pub fn note(
     missed: usize,
     q: Question,
 ) -> WalkSoFar
-    ensures { walked_by deleted.now edges.new result ≡ noted (walked deleted.now edges.old missed (WalkAnswer.Done count)) count q }
+    ensures { walked_by deleted.now edges.new result ≡ noted (walked deleted.now edges.old missed (Ok count)) count q }
 {
-    if count < edges.len() / 2 {
-        set_pair_at(edges, count, 0, q.face);
-        set_pair_at(edges, count, 1, q.corner);
-        WalkSoFar {
-            answer: WalkAnswer::Done(count + 1),
-            missed,
-        }
+    let answer = if count < edges.len() / 2 {
+        put_question(edges, count, q);
+        Ok(count + 1)
     } else {
-        WalkSoFar {
-            answer: WalkAnswer::NoRoom,
-            missed,
-        }
-    }
+        Err(NoRoom)
+    };
+    WalkSoFar { answer, missed }
 }
 
 // A question, after a walk that has come `sofar`: where that found no room nothing is done. Both lookups of a face
@@ -52,8 +47,7 @@ pub fn compute_silhouette(
     ensures { Reads (λ l. walk (mesh_of single l point) (walked_by deleted.old edges.old sofar) q) (walked_by deleted.new edges.new result)
         (λ k. with_vertices vertices.now (with_face_ids ids.now (with_face_floats floats.now k))) }
 {
-    let answer = sofar.answer;
-    let WalkAnswer::Done(count) = answer else {
+    let Ok(count) = sofar.answer else {
         return sofar;
     };
     if deleted_at(deleted, q.face) != 0 {
@@ -64,7 +58,7 @@ pub fn compute_silhouette(
         let first = facing_at(ids, q.face, (q.corner % 3 + 2) % 3, sofar.missed);
         let second = facing_at(ids, q.face, q.corner, first.missed);
         let entered = WalkSoFar {
-            answer,
+            answer: Ok(count),
             missed: second.missed,
         };
         let r = compute_silhouette(
@@ -105,12 +99,12 @@ pub fn pass(
     b: Question,
     c: Question,
 ) -> WalkSoFar
-    ensures { Reads (λ l. pass (mesh_of single l point) (walked deleted.old edges.old missed (WalkAnswer.Done 0)) a b c)
+    ensures { Reads (λ l. pass (mesh_of single l point) (walked deleted.old edges.old missed (Ok 0)) a b c)
         (walked_by deleted.new edges.new result)
         (λ k. with_vertices vertices.now (with_face_ids ids.now (with_face_floats floats.now k))) }
 {
     let start = WalkSoFar {
-        answer: WalkAnswer::Done(0),
+        answer: Ok(0),
         missed,
     };
     let r1 = compute_silhouette(vertices, ids, floats, deleted, edges, point, start, a);

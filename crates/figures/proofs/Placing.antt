@@ -1,21 +1,11 @@
--- Text that found its place in a slice (`placed-put`), and how long the lines of a campaign are. Assumes nothing.
-use Rattle.std.proofs.Common.{◌≡◌, ℕ, ◌+◌, ◌≤◌, List, length, ap, ◌∙◌, arith, length-append, le-leb}
-use lib.Seq.{sets}
-use Rattle.lines.specs.declared.text.Placed.{Placed}
-use Rattle.lines.specs.declared.text.Placed.TheVariants.{Next}
-use Rattle.lines.specs.Text.{After, after, Put, place_of}
+-- How long the lines of a campaign are, and what putting them together needs. Assumes nothing.
+use Rattle.std.proofs.Common.{◌≡◌, ℕ, ◌+◌, ◌≤◌, List, length, arith, length-append, append_assoc}
 use Rattle.lines.proofs.Lengths.{number-length, bad-length}
 use Rattle.figures.specs.declared.sums.Letters.{Letters}
 use Rattle.figures.specs.declared.sums.Figures.{Figures}
 use Rattle.figures.specs.declared.text.Stop.{Stop}
 use Rattle.figures.specs.declared.text.Stop.TheVariants.{File, Bad, TooMany}
-use Rattle.figures.specs.Campaign.{next_or, number_text, letters_text, figures_text, stop_text, first_line, campaign_text}
-
-pub placed-put : (o l o' : List ℕ) (at : ℕ) (r : Placed) → after o' r ≡ place_of o at l → at + length l ≤ length o → Put o at l o' (next_or r at)
-unfolding place_of
-placed-put o l o' at r e h =
-    let k : after o' r ≡ after (sets o at l) (Next (at + length l)) = e ∙ rw (le-leb (at + length l) (length o) h) in
-    record { written = ap (λ (a : After). a.bytes) k; place = ap (λ (a : After). next_or a.answer at) k }
+use Rattle.figures.specs.Campaign.{number_text, letters_text, figures_text, stop_text, first_line, campaign_text}
 
 pub text-length : (n end : ℕ) → length (number_text n end) ≤ 21
 unfolding number_text
@@ -42,3 +32,6 @@ stop-length TooMany = omega arith
 pub campaign-length : (g : Figures) (s : Stop) → length (campaign_text g s) ≤ 267
 unfolding campaign_text first_line
 campaign-length g s = simp length-append (omega (arith, figures-length g, stop-length s))
+
+-- how long the parts are, and that parts are put one after the other
+pub ruleset parts = (append_assoc, length-append, number-length, text-length, letters-length, figures-length)

@@ -4,7 +4,10 @@ use Rattle.std.proofs.Common.{◌≡◌, ℕ, ◌<◌, ◌≤◌, Bool, true, fa
 use lib.Ieee.{Format}
 use borrow.Author.Tests.{lt-leb}
 use Rattle.casefile.specs.declared.records.Case.{Case}
-use Rattle.casefile.specs.declared.records.CaseAnswer.{CaseAnswer}
+use Rattle.casefile.specs.declared.records.CaseError.{CaseError}
+use Rattle.casefile.specs.declared.records.CaseError.TheVariants as Case_error
+use Rattle.casefile.specs.declared.numbers.Got.{Got}
+use Rattle.std.specs.Prelude.{Result, Ok, Err}
 use Rattle.casefile.specs.Records.{read_case}
 use Rattle.lines.specs.declared.line.Outcome.{Outcome}
 use Rattle.epa_polytope.specs.Stores.{Lists}
@@ -13,18 +16,18 @@ use Rattle.window.specs.Window.{offset_of}
 use Rattle.stream.specs.Reading.{most_records}
 use Rattle.stream.specs.Stream.{case_outcome}
 use Rattle.figures.specs.declared.sums.Figures.{Figures}
-use Rattle.figures.specs.declared.turn.Reckoned.TheVariants.{Counted, End, Malformed, TooMany}
+use Rattle.figures.specs.declared.text.Stop.TheVariants.{File, Bad, TooMany}
 use Rattle.figures.specs.Figures.{after_outcome}
-use Rattle.figures.specs.Reckoning.{reckon_by, reckon_of, reckoned_number}
+use Rattle.figures.specs.Reckoning.{counted, reckon_by, reckon_of, reckoned_number}
 
 module _ (f : Format) (s : List ℕ) (at base number : ℕ) (g : Figures) (l : Lists) where
   -- THE FILE'S END IS NO REFUSAL, whatever the number
-  pub at-the-end : length s ≤ at → final End l ≡ reckon_of f s at base number g l
+  pub at-the-end : length s ≤ at → final (Err File) l ≡ reckon_of f s at base number g l
   unfolding reckon_of
   at-the-end h = rw (le-leb (length s) at h)
 
   -- A BYTE AFTER THE LAST RECORD gives refusal 8, whatever it is, and nothing is read of it
-  pub too_many : at < length s → most_records < number → final TooMany l ≡ reckon_of f s at base number g l
+  pub too_many : at < length s → most_records < number → final (Err TooMany) l ≡ reckon_of f s at base number g l
   unfolding reckon_of
   too_many h m = rw (lt-leb (length s) at h, lt-ltb most_records number m)
 
@@ -34,13 +37,12 @@ module _ (f : Format) (s : List ℕ) (at base number : ℕ) (g : Figures) (l : L
   up-to-the-last h m = rw (lt-leb (length s) at h, le-ltb most_records number m)
 
   -- REFUSAL 8 is given in no other case
-  not-8 : (x : CaseAnswer) → reckoned_number (reckon_by f x s base number g l).answer ≡ 8 → ⊥
-  not-8 (CaseAnswer.Whole c next) e = omega arith
-  not-8 (CaseAnswer.Malformed b) e = omega arith
-  not-8 CaseAnswer.Ended e = omega arith
+  not-8 : (x : Result (Got Case) CaseError) → reckoned_number (reckon_by f x s base number g l).answer ≡ 8 → ⊥
+  not-8 (Ok r) e = omega arith
+  not-8 (Err d) e = omega arith
 
   by_tests : (t u : Bool) → leb (length s) at ≡ t → ltb most_records number ≡ u
-      → reckoned_number (cond t (final End l) (cond u (final TooMany l) (reckon_by f (read_case f s at) s base number g l))).answer ≡ 8 → (at < length s) × (most_records < number)
+      → reckoned_number (cond t (final (Err File) l) (cond u (final (Err TooMany) l) (reckon_by f (read_case f s at) s base number g l))).answer ≡ 8 → (at < length s) × (most_records < number)
   by_tests true u p q e = absurd (omega arith)
   by_tests false true p q e = (leb-false (length s) at p, ltb-true most_records number q)
   by_tests false false p q e = absurd (not-8 (read_case f s at) e)
@@ -49,19 +51,19 @@ module _ (f : Format) (s : List ℕ) (at base number : ℕ) (g : Figures) (l : L
   unfolding reckon_of
   only-8 = by_tests (leb (length s) at) (ltb most_records number) refl refl
 
-  module _ (some : at < length s) (within : number ≤ most_records) {found : CaseAnswer} (read : found ≡ read_case f s at) where
-    by-found : (x : CaseAnswer) → found ≡ x → reckon_by f x s base number g l ≡ reckon_of f s at base number g l
-    by-found x is = ap (λ (t : CaseAnswer). reckon_by f t s base number g l) (sym is ∙ read) ∙ sym (up-to-the-last some within)
+  module _ (some : at < length s) (within : number ≤ most_records) {found : Result (Got Case) CaseError} (read : found ≡ read_case f s at) where
+    by-found : (x : Result (Got Case) CaseError) → found ≡ x → reckon_by f x s base number g l ≡ reckon_of f s at base number g l
+    by-found x is = ap (λ (t : Result (Got Case) CaseError). reckon_by f t s base number g l) (sym is ∙ read) ∙ sym (up-to-the-last some within)
 
-    pub whole : {c : Case} {next : ℕ} → found ≡ CaseAnswer.Whole c next → {l1 : Lists} {x : Outcome} → final x l1 ≡ case_outcome f c l
-        → {h : Figures} → h ≡ after_outcome number x g → final (Counted next h) l1 ≡ reckon_of f s at base number g l
-    whole {c} {next} is {l1} {x} e {h} counted =
-        ap (λ (t : Figures). final (Counted next t) l1) counted
-        ∙ ap (answered (λ (y : Outcome). Counted next (after_outcome number y g))) e
-        ∙ by-found (CaseAnswer.Whole c next) is
+    pub whole : {r : Got Case} → found ≡ Ok r → {l1 : Lists} {x : Outcome} → final x l1 ≡ case_outcome f r.value l
+        → {h : Figures} → h ≡ after_outcome number x g → final (counted r.next h) l1 ≡ reckon_of f s at base number g l
+    whole {r} is {l1} {x} e {h} told =
+        ap (λ (t : Figures). final (counted r.next t) l1) told
+        ∙ ap (answered (λ (y : Outcome). counted r.next (after_outcome number y g))) e
+        ∙ by-found (Ok r) is
 
-    pub malformed : {b : ℕ} → found ≡ CaseAnswer.Malformed b → {offset : ℕ} → offset ≡ offset_of base b → final (Malformed offset) l ≡ reckon_of f s at base number g l
-    malformed {b} is {offset} at_b = ap (λ (t : ℕ). final (Malformed t) l) at_b ∙ by-found (CaseAnswer.Malformed b) is
+    pub malformed : {b : ℕ} → found ≡ Err (Case_error.Malformed b) → {offset : ℕ} → offset ≡ offset_of base b → final (Err (Bad offset)) l ≡ reckon_of f s at base number g l
+    malformed {b} is {offset} at_b = ap (λ (t : ℕ). final (Err (Bad t)) l) at_b ∙ by-found (Err (Case_error.Malformed b)) is
 
-    pub cut : found ≡ CaseAnswer.Ended → {offset : ℕ} → offset ≡ offset_of base (length s) → final (Malformed offset) l ≡ reckon_of f s at base number g l
-    cut is {offset} at-end = ap (λ (t : ℕ). final (Malformed t) l) at-end ∙ by-found CaseAnswer.Ended is
+    pub cut : found ≡ Err Case_error.Ended → {offset : ℕ} → offset ≡ offset_of base (length s) → final (Err (Bad offset)) l ≡ reckon_of f s at base number g l
+    cut is {offset} at-end = ap (λ (t : ℕ). final (Err (Bad t)) l) at-end ∙ by-found (Err Case_error.Ended) is

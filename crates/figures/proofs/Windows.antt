@@ -3,25 +3,28 @@
 use Rattle.std.proofs.Common.{◌≡◌, ℕ, ◌+◌, Bool, true, false, cond, ltb, leb, List, [], ◌++◌, length, refl, ap, ◌∙◌, ⊎_elim, arith, length-append, le-leb, leb-false, leb-true}
 use lib.Ieee.{Format}
 use borrow.Author.Tests.{lt-leb}
-use Rattle.casefile.specs.declared.records.CaseAnswer.{CaseAnswer}
+use Rattle.casefile.specs.declared.records.Case.{Case}
+use Rattle.casefile.specs.declared.records.CaseError.{CaseError}
+use Rattle.casefile.specs.declared.records.CaseError.TheVariants as Case_error
+use Rattle.casefile.specs.declared.numbers.Got.{Got}
+use Rattle.std.specs.Prelude.{Result, Ok, Err}
 use Rattle.casefile.specs.Records.{read_case}
-use Rattle.casefile.proofs.Shifts.{moved_case}
+use Rattle.casefile.proofs.Shifts.{moved}
 use Rattle.epa_polytope.specs.Stores.{Lists}
 use Rattle.epa.specs.Final.{Final, final, answered}
 use Rattle.window.specs.Window.{offset_of}
 use Rattle.stream.specs.Reading.{most_records}
 use Rattle.stream.proofs.Windows.{Holds, same_case, same_end, same-offset}
 use Rattle.figures.specs.declared.sums.Figures.{Figures}
-use Rattle.figures.specs.declared.turn.Reckoned.{Reckoned}
-use Rattle.figures.specs.declared.turn.Reckoned.TheVariants.{Counted, End, Malformed, TooMany}
-use Rattle.figures.specs.Reckoning.{reckon_by, reckon_of}
+use Rattle.figures.specs.declared.text.Stop.{Stop}
+use Rattle.figures.specs.declared.text.Stop.TheVariants.{File, Bad, TooMany}
+use Rattle.figures.specs.declared.turn.Counted.{Counted}
+use Rattle.figures.specs.Reckoning.{counted, reckon_by, reckon_of}
 
 -- the same turn, with the next record's place k further on
-abbrev pub moved_reckoned : ℕ → Reckoned → Reckoned
-moved_reckoned k (Counted next g) = Counted (k + next) g
-moved_reckoned k End = End
-moved_reckoned k (Malformed b) = Malformed b
-moved_reckoned k TooMany = TooMany
+abbrev pub moved_reckoned : ℕ → Result Counted Stop → Result Counted Stop
+moved_reckoned k (Ok c) = counted (k + c.next) c.figures
+moved_reckoned k (Err e) = Err e
 
 module _ (f : Format) (front s behind : List ℕ) (at number : ℕ) (g : Figures) (l : Lists) where
   abbrev k : ℕ
@@ -34,11 +37,11 @@ module _ (f : Format) (front s behind : List ℕ) (at number : ℕ) (g : Figures
   abbrev pub Held : Type 0
   Held = Holds f front s behind at number [] 0
 
-  by-case : (x : CaseAnswer) (bytes : List ℕ) → (x ≡ CaseAnswer.Ended → length bytes ≡ k + length s)
-      → reckon_by f (moved_case k x) bytes 0 number g l ≡ answered (moved_reckoned k) (reckon_by f x s k number g l)
-  by-case (CaseAnswer.Whole c next) bytes h = refl
-  by-case (CaseAnswer.Malformed b) bytes h = ap (λ (n : ℕ). final (Malformed n) l) (same-offset k b)
-  by-case CaseAnswer.Ended bytes h = ap (λ (n : ℕ). final (Malformed n) l) (ap (offset_of 0) (h refl) ∙ same-offset k (length s))
+  by-case : (x : Result (Got Case) CaseError) (bytes : List ℕ) → (x ≡ Err Case_error.Ended → length bytes ≡ k + length s)
+      → reckon_by f (moved k x) bytes 0 number g l ≡ answered (moved_reckoned k) (reckon_by f x s k number g l)
+  by-case (Ok r) bytes h = refl
+  by-case (Err (Case_error.Malformed b)) bytes h = ap (λ (n : ℕ). final (Err (Bad n)) l) (same-offset k b)
+  by-case (Err Case_error.Ended) bytes h = ap (λ (n : ℕ). final (Err (Bad n)) l) (ap (offset_of 0) (h refl) ∙ same-offset k (length s))
 
   -- the bytes end at the record's place in the window where they do in the file
   whole_length : length whole ≡ k + (length s + length behind)
@@ -50,7 +53,7 @@ module _ (f : Format) (front s behind : List ℕ) (at number : ℕ) (g : Figures
       (⊎_elim (λ fits. omega (arith, leb-true (length s) at e)) (λ none. omega (arith, leb-true (length s) at e, whole_length, ap length none)) h)
   ends_at false e h = lt-leb (length whole) (k + at) (omega (arith, leb-false (length s) at e, whole_length))
 
-  pick : (t : Bool) (a b a' b' : Final Reckoned) → a' ≡ answered (moved_reckoned k) a → b' ≡ answered (moved_reckoned k) b → cond t a' b' ≡ answered (moved_reckoned k) (cond t a b)
+  pick : (t : Bool) (a b a' b' : Final (Result Counted Stop)) → a' ≡ answered (moved_reckoned k) a → b' ≡ answered (moved_reckoned k) b → cond t a' b' ≡ answered (moved_reckoned k) (cond t a b)
   pick true a b a' b' p q = p
   pick false a b a' b' p q = q
 
@@ -58,7 +61,7 @@ module _ (f : Format) (front s behind : List ℕ) (at number : ℕ) (g : Figures
   unfolding reckon_of
   window-reckoned h =
       let one = by-case (read_case f s at) whole (same_end f front s behind at number [] 0 h) in
-      let read = ap (λ (x : CaseAnswer). reckon_by f x whole 0 number g l) (same_case f front s behind at number [] 0 h) ∙ one in
-      let few = pick (ltb most_records number) (final TooMany l) _ (final TooMany l) _ refl read in
-      ap (λ (t : Bool). cond t (final End l) (cond (ltb most_records number) (final TooMany l) (reckon_by f (read_case f whole (k + at)) whole 0 number g l))) (ends_at (leb (length s) at) refl h)
-      ∙ pick (leb (length s) at) (final End l) _ (final End l) _ refl few
+      let read = ap (λ (x : Result (Got Case) CaseError). reckon_by f x whole 0 number g l) (same_case f front s behind at number [] 0 h) ∙ one in
+      let few = pick (ltb most_records number) (final (Err TooMany) l) _ (final (Err TooMany) l) _ refl read in
+      ap (λ (t : Bool). cond t (final (Err File) l) (cond (ltb most_records number) (final (Err TooMany) l) (reckon_by f (read_case f whole (k + at)) whole 0 number g l))) (ends_at (leb (length s) at) refl h)
+      ∙ pick (leb (length s) at) (final (Err File) l) _ (final (Err File) l) _ refl few

@@ -1,17 +1,11 @@
 -- The lines of a campaign, as lists of bytes (document 02, ticket 11). Definitions only.
 use Rattle.std.specs.Prelude.{ℕ, List, [], ◌∷◌, ◌++◌}
-use Rattle.lines.specs.declared.text.Placed.{Placed}
 use Rattle.lines.specs.Text.{decimal_of}
 use Rattle.lines.specs.Lines.{bad_line}
 use Rattle.figures.specs.declared.sums.Letters.{Letters}
 use Rattle.figures.specs.declared.sums.Figures.{Figures}
 use Rattle.figures.specs.declared.text.Stop.{Stop}
 use Rattle.figures.specs.declared.text.Stop.TheVariants.{File, Bad, TooMany}
-
--- for private functions: the place after a text, or another
-abbrev pub next_or : Placed → ℕ → ℕ
-next_or (Placed.Next next) otherwise = next
-next_or Placed.NoRoom otherwise = otherwise
 
 -- a number, and a space or the end of the line
 unfoldable pub number_text : ℕ → ℕ → List ℕ

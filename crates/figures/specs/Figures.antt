@@ -1,6 +1,6 @@
 -- The figures of a campaign as a fold over the outcomes of its records (document 02, ticket 11). Definitions only.
 use Rattle.std.specs.Prelude.{ℕ, ◌+◌, ◌%◌, ◌^◌, Bool, true, cond, List, [], ◌∷◌, ◌==◌, nat_lt}
-use Rattle.lines.specs.declared.line.Counts.{Counts}
+use Rattle.counts.specs.declared.Counts.{Counts}
 use Rattle.lines.specs.declared.line.Outcome.{Outcome}
 use Rattle.lines.specs.declared.line.Outcome.TheVariants.{ClosestPoints, Proximity, NoIntersection, Penetration, NoAnswer, Panic, NoPlace}
 use Rattle.lines.specs.Lines.{letter_of}

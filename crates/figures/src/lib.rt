@@ -8,4 +8,4 @@ mod turn;
 
 pub use sums::{Figures, Letters, counted, none};
 pub use text::{Stop, write_campaign};
-pub use turn::{Reckoned, figures_next};
+pub use turn::{Counted, figures_next};

@@ -1,8 +1,9 @@
 // The figures, and how an outcome is counted. Sums are of u64 and never wrap within a campaign (law `sums-fit`).
-ghost use Rattle.std.specs.Prelude.{◌≡◌, if◌then◌else◌};
+ghost use Rattle.std.specs.Prelude.{◌≡◌};
 ghost use Rattle.figures.specs.Figures.{no_figures, tallied as tallied_of, letters_with, beats as beats_of, with_letter, with_counts, after_outcome};
 
-use lines::{Counts, Outcome};
+use counts::Counts;
+use lines::Outcome;
 
 // Records per letter of their lines, in the order in which the figures have them.
 #[derive(Clone, Copy)]
@@ -53,13 +54,10 @@ pub fn none() -> Figures
 fn tallied(n: u64, letter: u8, this: u8) -> u64
     ensures { result ≡ tallied_of n letter this }
 {
-    if letter == this {
-        std::num::wrapping_add_u64(n, 1)
-    } else {
-        n
-    }
+    if letter == this { n.wrapping_add(1) } else { n }
 }
 
+#[tactic(auto, unfolding(crate::specs::Figures::letters_with))]
 fn letters_with(l: Letters, letter: u8) -> Letters
     ensures { result ≡ letters_with letter l }
 {
@@ -74,17 +72,13 @@ fn letters_with(l: Letters, letter: u8) -> Letters
     }
 }
 
+#[tactic(auto, unfolding(crate::specs::Figures::with_letter))]
 fn with_letter(g: Figures, letter: u8) -> Figures
     ensures { result ≡ with_letter letter g }
 {
-    let before = g.letters;
-    let letters = letters_with(before, letter);
     Figures {
-        letters,
-        expansions: g.expansions,
-        counted: g.counted,
-        greatest: g.greatest,
-        first: g.first,
+        letters: letters_with(g.letters, letter),
+        ..g
     }
 }
 
@@ -92,31 +86,28 @@ fn with_letter(g: Figures, letter: u8) -> Figures
 fn beats(g: Figures, made: u64) -> bool
     ensures { result ≡ beats_of made g }
 {
-    if g.counted == 0 {
-        return true;
-    }
-    g.greatest < made
-}
-
-fn either(first: bool, a: u64, b: u64) -> u64
-    ensures { result ≡ (if first then a else b) }
-{
-    if first { a } else { b }
+    g.counted == 0 || g.greatest < made
 }
 
 // The counts of the record `number`.
+#[tactic(auto, unfolding(crate::specs::Figures::with_counts))]
 fn with_counts(g: Figures, number: u64, c: Counts) -> Figures
     ensures { result ≡ with_counts number c g }
 {
-    let letters = g.letters;
     let made = c.made as u64;
-    let greater = beats(g, made);
-    Figures {
-        letters,
-        expansions: std::num::wrapping_add_u64(g.expansions, c.expansions as u64),
-        counted: std::num::wrapping_add_u64(g.counted, 1),
-        greatest: either(greater, made, g.greatest),
-        first: either(greater, number, g.first),
+    let summed = Figures {
+        expansions: g.expansions.wrapping_add(c.expansions as u64),
+        counted: g.counted.wrapping_add(1),
+        ..g
+    };
+    if beats(g, made) {
+        Figures {
+            greatest: made,
+            first: number,
+            ..summed
+        }
+    } else {
+        summed
     }
 }
 
@@ -126,12 +117,12 @@ pub fn counted(figures: Figures, number: u64, outcome: Outcome) -> Figures
 {
     let told = with_letter(figures, lines::letter(outcome));
     match outcome {
-        Outcome::ClosestPoints(_, _, _) => told,
-        Outcome::Proximity(_) => told,
-        Outcome::NoIntersection(_) => told,
-        Outcome::Penetration(_, _, _, c) => with_counts(told, number, c),
-        Outcome::NoAnswer(c) => with_counts(told, number, c),
-        Outcome::Panic => told,
-        Outcome::NoPlace(c) => with_counts(told, number, c),
+        Outcome::Penetration(_, _, _, c) | Outcome::NoAnswer(c) | Outcome::NoPlace(c) => {
+            with_counts(told, number, c)
+        }
+        Outcome::ClosestPoints(_, _, _)
+        | Outcome::Proximity(_)
+        | Outcome::NoIntersection(_)
+        | Outcome::Panic => told,
     }
 }

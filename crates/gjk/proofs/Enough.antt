@@ -1,7 +1,7 @@
 -- The turns of a run are never spent: within 107 one ends it (`always-ends`), so that 107 give what any larger number gives (`enough`), for any format, support function and simplex.
 -- A turn that goes on is a round, of which the hundredth ends the run, or it leaves the projection and the bound alone (`Step`). Then the bound doesn't fall in the next
 -- turn, which takes one of six perturbations or ends. So `left`, the rounds, the perturbations and one turn before a perturbation that are left, falls at each turn.
--- `niter` starts at 0 and rises by one, so that it is below 100 in each turn (`few-first`, `few-after`): the test for the hundredth wants this, and so does the code's sum.
+-- `niter` starts at 0 and rises by one, so that it is below 100 in each turn (`few-first`, `few-after`): the test for the hundredth wants this. Of what the code carries its type says it.
 use Prim.Native.Nat.{ℕ, zero, suc, ◌+◌, ◌-◌, ◌*◌, ◌≤◌, ◌<◌}
 use mathlib.Core.Path.{◌≡◌, refl, sym, ap, ◌∙◌}
 use mathlib.Core.Bool.{Bool, true, false, not, ◌&&◌, ◌||◌, cond}
@@ -13,23 +13,23 @@ use lib.Ieee.{Float, nan, inf, fin, Format, up, down, below, level, lt, le, eq}
 use lib.Ieee.Scale.{finite}
 use Rattle.number.specs.Constants.{eps_tol}
 use Rattle.number.specs.Root.{root}
+use Rattle.std.specs.Prelude.{Option, Some, None, Result, Ok, Err}
+use Rattle.refusal.specs.declared.WouldPanic.{WouldPanic}
+use Rattle.refusal.specs.Refusal.{would_panic}
 use Rattle.vector.specs.declared.vec3.Vec3.{Vec3}
-use Rattle.vector.specs.declared.vec3.MaybeVec3.{MaybeVec3}
 use Rattle.vector.specs.Vector.{zero_f, neg_v, dot_v, length_v, try_normalize_v, normalize_and_length_v, ◌⊖◌, ◌⊗◌}
 use Rattle.shape.specs.declared.vertex.Vertex.{Vertex}
 use Rattle.simplex.specs.declared.voronoi_simplex.VoronoiSimplex.{VoronoiSimplex}
-use Rattle.simplex.specs.declared.operations.Answer.{Answer}
-use Rattle.reduction.specs.declared.location.Projected.{Projected}
 use Rattle.simplex.specs.Operations.{add_point}
-use Rattle.reduction.specs.Reduction.{project_origin_and_reduce}
+use Rattle.reduction.specs.Reduction.{Projected, project_origin_and_reduce}
 use Rattle.gjk.specs.declared.rounds.GJKResult.{GJKResult}
-use Rattle.gjk.specs.declared.rounds.GJKResult.TheVariants.{Intersection, Refused}
+use Rattle.gjk.specs.declared.rounds.GJKResult.TheVariants.{Intersection}
 use Rattle.gjk.specs.Perturbed.{perturbed_dir}
 use Rattle.gjk.specs.Gjk.{Search, Round, Next, Onward, Ended, Turn, onward_with, ended_with, goes_on, over, ◌▷◌, after, bounded_by, perturbed_round, bettered, round_after, touching, first_round, start_in, start_at, start_of}
 use Rattle.gjk.specs.Gjk.{directed, stagnated, asserted, bounded, stalled, added_by, added, reduced_to, reduced, probed, turn_of, run_of, finished_by, closest_within, closest_points}
 
 -- ---- a turn that ends doesn't go on
-no_end : {A : Type 0} (x : GJKResult) (r : Round) → Ended x ≡ Onward r → A
+no_end : {A : Type 0} (x : Result GJKResult WouldPanic) (r : Round) → Ended x ≡ Onward r → A
 no_end x r h = let z : ◌≡◌ {A = ℕ} 0 1 = cc in absurd (omega arith)
 
 -- ---- a number above another compares with itself
@@ -69,15 +69,15 @@ first_round_lem : (f : Format) (s : VoronoiSimplex) (r : Round) → (start_of f 
 unfolding start_of first_round
 first_round_lem f s r h = let t = project_origin_and_reduce f s in go t.simplex t.projection h
   where
-    within : (s : VoronoiSimplex) (proj : Vec3) (d : MaybeVec3) → (start_in f s proj d).next ≡ Onward r → (r.niter ≡ 0) × (r.nb_perturbs ≡ 0)
-    within s proj (MaybeVec3.Some d) h =
+    within : (s : VoronoiSimplex) (proj : Vec3) (d : Option Vec3) → (start_in f s proj d).next ≡ Onward r → (r.niter ≡ 0) × (r.nb_perturbs ≡ 0)
+    within s proj (Some d) h =
         let same : first_round f proj d ≡ r = cc in
         (sym (ap (λ (q : Round). q.niter) same), sym (ap (λ (q : Round). q.nb_perturbs) same))
-    within s proj MaybeVec3.None h = no_end Intersection r h
+    within s proj None h = no_end (Ok Intersection) r h
 
-    go : (s : VoronoiSimplex) (p : Projected) → (start_at f s p).next ≡ Onward r → (r.niter ≡ 0) × (r.nb_perturbs ≡ 0)
-    go s (Projected.At proj location) h = within s proj (try_normalize_v f proj) h
-    go s Projected.Refused h = no_end Refused r h
+    go : (s : VoronoiSimplex) (p : Result Projected WouldPanic) → (start_at f s p).next ≡ Onward r → (r.niter ≡ 0) × (r.nb_perturbs ≡ 0)
+    go s (Ok p) h = within s p.point (try_normalize_v f p.point) h
+    go s (Err e) h = no_end (Err e) r h
 
 pub few-first : (f : Format) (s : VoronoiSimplex) (r : Round) → (start_of f s).next ≡ Onward r → r.niter < 100
 few-first f s r h = omega (arith, (first_round_lem f s r h).0)
@@ -87,34 +87,34 @@ module _ (f : Format) (k : Search) where
   unfolding stalled
   stalled-step s r q dir h = go (lt zero_f r.best_min_bound) (touching f k r) (ltb r.nb_perturbs 6) _ _ _ refl h
     where
-      go : (b t p : Bool) (x y z : GJKResult) → ltb r.nb_perturbs 6 ≡ p → (cond b (ended_with s x) (cond t (ended_with s y) (cond p (onward_with s r) (ended_with s z)))).next ≡ Onward q → Step r q
+      go : (b t p : Bool) (x y z : Result GJKResult WouldPanic) → ltb r.nb_perturbs 6 ≡ p → (cond b (ended_with s x) (cond t (ended_with s y) (cond p (onward_with s r) (ended_with s z)))).next ≡ Onward q → Step r q
       go true t p x y z e h = no_end x q h
       go false true p x y z e h = no_end y q h
       go false false true x y z e h = stood (cc) (ltb-true r.nb_perturbs 6 e)
       go false false false x y z e h = no_end z q h
 
-  reduced-step : (s : VoronoiSimplex) (p : Projected) (r q : Round) (dir : Vec3) (m : Float) → (reduced_to f k s p r dir m).next ≡ Onward q → Step r q
+  reduced-step : (s : VoronoiSimplex) (p : Result Projected WouldPanic) (r q : Round) (dir : Vec3) (m : Float) → (reduced_to f k s p r dir m).next ≡ Onward q → Step r q
   unfolding round_after
-  reduced-step s Projected.Refused r q dir m h = no_end _ q h
-  reduced-step s (Projected.At proj location) r q dir m h = go (eqb s.dim 3) (le (eps_tol f) m) (eqb (r.niter + 1) 100) _ _ _ refl h
+  reduced-step s (Err e) r q dir m h = no_end _ q h
+  reduced-step s (Ok p) r q dir m h = go (eqb s.dim 3) (le (eps_tol f) m) (eqb (r.niter + 1) 100) _ _ _ refl h
     where
-      go : (d b l : Bool) (x y z : GJKResult) → eqb (r.niter + 1) 100 ≡ l → (cond d (cond b (ended_with s x) (ended_with s y)) (cond l (ended_with s z) (onward_with s (round_after r proj dir)))).next ≡ Onward q → Step r q
+      go : (d b l : Bool) (x y z : Result GJKResult WouldPanic) → eqb (r.niter + 1) 100 ≡ l → (cond d (cond b (ended_with s x) (ended_with s y)) (cond l (ended_with s z) (onward_with s (round_after r p.point dir)))).next ≡ Onward q → Step r q
       go true true l x y z e h = no_end x q h
       go true false l x y z e h = no_end y q h
       go false b true x y z e h = no_end z q h
       go false b false x y z e h =
-          let same : round_after r proj dir ≡ q = cc in
+          let same : round_after r p.point dir ≡ q = cc in
           went (eqb-false (r.niter + 1) 100 e) (sym (ap (λ (t : Round). t.niter) same)) (sym (ap (λ (t : Round). t.nb_perturbs) same))
 
   -- from the new vertex on
   grown : Float → Vertex → VoronoiSimplex → Round → Vec3 → Turn
   grown m v s r dir = added f k s r dir v ▷ λ s₁ r₁ dir₁. reduced f k s₁ r₁ dir₁ m
 
-  added-step : (s : VoronoiSimplex) (a : Answer) (r q : Round) (dir : Vec3) (m : Float) → (added_by f k s a r dir ▷ λ s₁ r₁ dir₁. reduced f k s₁ r₁ dir₁ m).next ≡ Onward q → Step r q
+  added-step : (s : VoronoiSimplex) (a : Result Bool WouldPanic) (r q : Round) (dir : Vec3) (m : Float) → (added_by f k s a r dir ▷ λ s₁ r₁ dir₁. reduced f k s₁ r₁ dir₁ m).next ≡ Onward q → Step r q
   unfolding reduced
-  added-step s Answer.Yes r q dir m h = let t = project_origin_and_reduce f s in reduced-step t.simplex t.projection r q dir m h
-  added-step s Answer.No r q dir m h = stalled-step s r q dir h
-  added-step s Answer.Refused r q dir m h = no_end _ q h
+  added-step s (Ok true) r q dir m h = let t = project_origin_and_reduce f s in reduced-step t.simplex t.projection r q dir m h
+  added-step s (Ok false) r q dir m h = stalled-step s r q dir h
+  added-step s (Err e) r q dir m h = no_end _ q h
 
   bounded-step : (s : VoronoiSimplex) (r q : Round) (dir : Vec3) (m : Float) (v : Vertex) → (bounded f k s r dir m ▷ grown m v).next ≡ Onward q → Step r q
   unfolding bounded grown added
@@ -122,7 +122,7 @@ module _ (f : Format) (k : Search) where
       go (lt k.max_dist m) (not k.exact && lt zero_f m && le r.max_bound k.max_dist)
       (le (◌⊖◌ f r.max_bound m) (◌⊗◌ f k.eps_rel r.max_bound)) _ _ _ h
     where
-      go : (a b c : Bool) (x y z : GJKResult) → (cond a (over (ended_with s x)) (cond b (over (ended_with s y)) (cond c (over (ended_with s z)) (goes_on s r dir))) ▷ grown m v).next ≡ Onward q → Step r q
+      go : (a b c : Bool) (x y z : Result GJKResult WouldPanic) → (cond a (over (ended_with s x)) (cond b (over (ended_with s y)) (cond c (over (ended_with s z)) (goes_on s r dir))) ▷ grown m v).next ≡ Onward q → Step r q
       go true b c x y z h = no_end x q h
       go false true c x y z h = no_end y q h
       go false false true x y z h = no_end z q h
@@ -136,16 +136,16 @@ module _ (f : Format) (k : Search) where
       let m = Ieee.neg (dot_v f dir v.point) in
       (m, length_v f v.point, go (finite m) m v h)
     where
-      go : (b : Bool) (m : Float) (v : Vertex) → (cond b (goes_on s r dir) (over (ended_with s Refused)) ▷ λ s₁ r₁ dir₁. bounded f k s₁ (bettered r₁ m (length_v f v.point)) dir₁ m ▷ grown m v).next ≡ Onward q → Step (bettered r m (length_v f v.point)) q
+      go : (b : Bool) (m : Float) (v : Vertex) → (cond b (goes_on s r dir) (over (ended_with s (Err would_panic))) ▷ λ s₁ r₁ dir₁. bounded f k s₁ (bettered r₁ m (length_v f v.point)) dir₁ m ▷ grown m v).next ≡ Onward q → Step (bettered r m (length_v f v.point)) q
       go true m v h = bounded-step s (bettered r m (length_v f v.point)) q dir m v h
-      go false m v h = no_end Refused q h
+      go false m v h = no_end (Err would_panic) q h
 
   -- a turn whose bound doesn't fall takes a perturbation
   stagnated-step : (s : VoronoiSimplex) (r q : Round) (dir : Vec3) → (stagnated f k s r dir ▷ probed f k).next ≡ Onward q → (r.nb_perturbs < 6) × ((m l : Float) × Step (bettered (perturbed_round r) m l) q)
   unfolding stagnated
   stagnated-step s r q dir h = go (lt zero_f r.best_min_bound) (touching f k r) (ltb r.nb_perturbs 6) _ _ _ refl h
     where
-      go : (b t p : Bool) (x y z : GJKResult) → ltb r.nb_perturbs 6 ≡ p → (cond b (over (ended_with s x)) (cond t (over (ended_with s y)) (cond p (goes_on s (perturbed_round r) (perturbed_dir f dir (r.nb_perturbs + 1))) (over (ended_with s z)))) ▷ probed f k).next ≡ Onward q → (r.nb_perturbs < 6) × ((m l : Float) × Step (bettered (perturbed_round r) m l) q)
+      go : (b t p : Bool) (x y z : Result GJKResult WouldPanic) → ltb r.nb_perturbs 6 ≡ p → (cond b (over (ended_with s x)) (cond t (over (ended_with s y)) (cond p (goes_on s (perturbed_round r) (perturbed_dir f dir (r.nb_perturbs + 1))) (over (ended_with s z)))) ▷ probed f k).next ≡ Onward q → (r.nb_perturbs < 6) × ((m l : Float) × Step (bettered (perturbed_round r) m l) q)
       go true t p x y z e h = no_end x q h
       go false true p x y z e h = no_end y q h
       go false false true x y z e h = (ltb-true r.nb_perturbs 6 e, probed-step s (perturbed_round r) q (perturbed_dir f dir (r.nb_perturbs + 1)) h)
@@ -209,9 +209,9 @@ module _ (f : Format) (k : Search) where
       on true l h = let p = stagnated-step s next q dir h in (omega (arith, stuck-less r q w p.1.0 p.1.1 l p.0 p.1.2), few-still _ q w p.1.2)
       on false l h = let p = probed-step s next q dir h in (free-less r q w p.0 p.1 l p.2, few-still _ q w p.2)
 
-      go : (t : Bool) → lt (eps_tol f) (dist r) ≡ t → (cond t (goes_on s next dir) (over (ended_with s Intersection)) ▷ λ s₁ r₁ dir₁. cond (le r.max_bound r₁.max_bound) (stagnated f k s₁ r₁ dir₁) (goes_on s₁ r₁ dir₁) ▷ probed f k).next ≡ Onward q → (left q < left r) × (q.niter < 100)
+      go : (t : Bool) → lt (eps_tol f) (dist r) ≡ t → (cond t (goes_on s next dir) (over (ended_with s (Ok Intersection))) ▷ λ s₁ r₁ dir₁. cond (le r.max_bound r₁.max_bound) (stagnated f k s₁ r₁ dir₁) (goes_on s₁ r₁ dir₁) ▷ probed f k).next ≡ Onward q → (left q < left r) × (q.niter < 100)
       go true l h = on (stuck r) l h
-      go false l h = no_end Intersection q h
+      go false l h = no_end (Ok Intersection) q h
 
   -- so a run with more turns than are left has turns to spare
   spare : (n m : ℕ) (s : VoronoiSimplex) (r : Round) → r.niter < 100 → left r < n → n ≤ m → run_of f k m s r ≡ run_of f k n s r
@@ -235,7 +235,7 @@ module _ (f : Format) (k : Search) where
 
   -- a run of at most n turns comes to one that ends it
   pub data Ends : ℕ → VoronoiSimplex → Round → Type 0 where
-    last : {n : ℕ} {s : VoronoiSimplex} {r : Round} (x : GJKResult) → (turn_of f k s r).next ≡ Ended x → Ends (suc n) s r
+    last : {n : ℕ} {s : VoronoiSimplex} {r : Round} (x : Result GJKResult WouldPanic) → (turn_of f k s r).next ≡ Ended x → Ends (suc n) s r
     further : {n : ℕ} {s : VoronoiSimplex} {r : Round} (q : Round) → (turn_of f k s r).next ≡ Onward q → Ends n (turn_of f k s r).simplex q → Ends (suc n) s r
 
   ended_by : (n : ℕ) (s : VoronoiSimplex) (r : Round) (x : Next) → (turn_of f k s r).next ≡ x → ((q : Round) → (turn_of f k s r).next ≡ Onward q → Ends n (turn_of f k s r).simplex q) → Ends (suc n) s r

@@ -1,17 +1,17 @@
 -- What the code carries and how it ends, as the definition has them. The code keeps the square of the support scale, of which `touching` alone takes the root: a round has one root less.
 -- It hands on no simplex before it has a vertex to add, and makes a run's result once: so an ending stands for its result on any simplex. Contracts of private functions alone cite these maps.
 -- Definitions only.
-use Rattle.std.specs.Prelude.{ℕ, ◌≡◌}
+use Rattle.std.specs.Prelude.{Result, Ok, Err}
 use Rattle.std.specs.Float.{Format}
 use Rattle.number.specs.Root.{root}
+use Rattle.refusal.specs.declared.WouldPanic.{WouldPanic}
+use Rattle.refusal.specs.Refusal.{would_panic}
 use Rattle.simplex.specs.declared.voronoi_simplex.VoronoiSimplex.{VoronoiSimplex}
 use Rattle.gjk.specs.declared.rounds.GJKResult.{GJKResult}
 use Rattle.gjk.specs.declared.rounds.Gjk.{Gjk}
-use Rattle.gjk.specs.declared.rounds.Carried.{Carried}
+use Rattle.gjk.specs.declared.carried.Carried.{Carried}
 use Rattle.gjk.specs.declared.rounds.Ending.{Ending}
 use Rattle.gjk.specs.declared.rounds.Ending.TheVariants.{Intersection, ClosestPoints, Proximity, NoIntersection, Refused}
-use Rattle.gjk.specs.declared.rounds.Next.{Next}
-use Rattle.gjk.specs.declared.rounds.Next.TheVariants.{Onward, Ended}
 use Rattle.gjk.specs.declared.rounds.Turn.{Turn}
 use Rattle.gjk.specs.declared.rounds.Ran.{Ran}
 use Rattle.gjk.specs.declared.rounds.Heading.{Heading}
@@ -23,38 +23,29 @@ abbrev pub round_by : Format → Carried → Round
 round_by f c = round_of c.proj c.old_dir c.max_bound c.best_min_bound (root f c.support_square) c.nb_perturbs c.niter
 
 -- the result that an ending has on a simplex
-unfoldable pub result_by : Format → VoronoiSimplex → Ending → GJKResult
-result_by f s Intersection = GJKResult.Intersection
+unfoldable pub result_by : Format → VoronoiSimplex → Ending → Result GJKResult WouldPanic
+result_by f s Intersection = Ok GJKResult.Intersection
 result_by f s (ClosestPoints prev dir) = closest_by f s prev dir
-result_by f s (Proximity dir) = GJKResult.Proximity dir
-result_by f s (NoIntersection dir) = GJKResult.NoIntersection dir
-result_by f s Refused = GJKResult.Refused
+result_by f s (Proximity dir) = Ok (GJKResult.Proximity dir)
+result_by f s (NoIntersection dir) = Ok (GJKResult.NoIntersection dir)
+result_by f s Refused = Err would_panic
 
 abbrev pub ran_by : Format → Ran → Gjk
 ran_by f r = record { simplex = r.simplex; result = result_by f r.simplex r.ending }
 
-unfoldable pub next_by : Format → VoronoiSimplex → Next → Gjk.Next
-next_by f s (Onward c) = Gjk.Onward (round_by f c)
-next_by f s (Ended e) = Gjk.Ended (result_by f s e)
+unfoldable pub next_by : Format → VoronoiSimplex → Result Carried Ending → Gjk.Next
+next_by f s (Ok c) = Gjk.Onward (round_by f c)
+next_by f s (Err e) = Gjk.Ended (result_by f s e)
 
 unfoldable pub turn_by : Format → Turn → Gjk.Turn
 turn_by f t = record { simplex = t.simplex; next = next_by f t.simplex t.next }
 
 -- where a turn looks, on any simplex
-unfoldable pub headed_by : Format → VoronoiSimplex → Heading → Part
-headed_by f s (Heading.Toward c dir) = goes_on s (round_by f c) dir
-headed_by f s (Heading.Ended e) = over (ended_with s (result_by f s e))
+unfoldable pub headed_by : Format → VoronoiSimplex → Result Heading Ending → Part
+headed_by f s (Ok h) = goes_on s (round_by f h.round) h.dir
+headed_by f s (Err e) = over (ended_with s (result_by f s e))
 
 -- what becomes of the turn by what it sees
-unfoldable pub seen_by : Format → Search → VoronoiSimplex → Sight → Gjk.Turn
-seen_by f k s (Sight.Point c dir min_bound cso_point) = added f k s (round_by f c) dir cso_point ▷ λ s₁ r₁ dir₁. reduced f k s₁ r₁ dir₁ min_bound
-seen_by f k s (Sight.Ended e) = ended_with s (result_by f s e)
-
--- `niter` is as it was
-unfoldable pub same_niter : ℕ → Heading → Type 0
-same_niter n (Heading.Toward c dir) = c.niter ≡ n
-same_niter n (Heading.Ended e) = Unit {0}
-
-unfoldable pub same_niter_seen : ℕ → Sight → Type 0
-same_niter_seen n (Sight.Point c dir min_bound cso_point) = c.niter ≡ n
-same_niter_seen n (Sight.Ended e) = Unit {0}
+unfoldable pub seen_by : Format → Search → VoronoiSimplex → Result Sight Ending → Gjk.Turn
+seen_by f k s (Ok t) = added f k s (round_by f t.round) t.dir t.cso_point ▷ λ s₁ r₁ dir₁. reduced f k s₁ r₁ dir₁ t.min_bound
+seen_by f k s (Err e) = ended_with s (result_by f s e)

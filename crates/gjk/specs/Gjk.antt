@@ -1,8 +1,8 @@
 -- `closest_points` of src/query/gjk/gjk.rs, for any format f and any support function. Definitions only.
 -- The loop's body in the Rust's order: `directed`, `stagnated`, `asserted`, `bounded`, `added`, `reduced`; `probed` and `turn_of` put them together. A part ends the turn, or goes on with
 -- the simplex, what the loop carries (`Round`) and `dir` (`◌▷◌`). A turn, one pass through the body, ends the run with a result, or goes on with what the loop carries.
--- The turns are the fuel of `run_of`: fuel for 107 is never spent (proofs/Enough.antt). Where the Rust panics the result is `Refused`, number 2.
-use Rattle.std.specs.Prelude.{ℕ, zero, suc, ◌+◌, Bool, true, false, not, ◌&&◌, cond, ltb, eqb, Float}
+-- The turns are the fuel of `run_of`: fuel for 107 is never spent (proofs/Enough.antt). Where the Rust panics the result is refusal 2.
+use Rattle.std.specs.Prelude.{ℕ, zero, suc, ◌+◌, Bool, true, false, not, ◌&&◌, cond, ltb, eqb, Float, Option, Some, None, Result, Ok, Err}
 use Rattle.std.specs.Float.Ieee as Ieee
 use Rattle.std.specs.Float.{Format}
 use Rattle.std.specs.Float.Ieee.{le}
@@ -10,31 +10,26 @@ use Rattle.std.specs.Float.Ieee.Scale.{finite}
 use Rattle.number.specs.Constants.{eps_tol, largest}
 use Rattle.number.specs.Root.{root}
 use Rattle.number.specs.Small.{gt, ge, larger}
+use Rattle.refusal.specs.declared.WouldPanic.{WouldPanic}
+use Rattle.refusal.specs.Refusal.{would_panic, number_or_panic}
 use Rattle.vector.specs.declared.vec3.Vec3.{Vec3}
-use Rattle.vector.specs.declared.vec3.MaybeVec3.{MaybeVec3}
 use Rattle.vector.specs.Vector.{zero_f, zero_v, x_v, neg_v, dot_v, length_v, try_normalize_v, normalize_and_length_v, ◌⊖◌, ◌⊗◌}
 use Rattle.shape.specs.declared.vertex.Vertex.{Vertex}
 use Rattle.shape.specs.Support.{from_shapes}
 use Rattle.simplex.specs.declared.voronoi_simplex.VoronoiSimplex.{VoronoiSimplex}
-use Rattle.simplex.specs.declared.operations.Answer.{Answer}
-use Rattle.reduction.specs.declared.location.Projected.{Projected}
 use Rattle.simplex.specs.Operations.{add_point}
-use Rattle.reduction.specs.Reduction.{project_origin_and_reduce}
+use Rattle.reduction.specs.Reduction.{Projected, project_origin_and_reduce}
 use Rattle.witnesses.specs.declared.Witnesses.{Witnesses}
 use Rattle.witnesses.specs.Witnesses.{result_of}
 use Rattle.gjk.specs.declared.rounds.GJKResult.{GJKResult}
-use Rattle.gjk.specs.declared.rounds.GJKResult.TheVariants.{Intersection, ClosestPoints, Proximity, NoIntersection, Refused}
+use Rattle.gjk.specs.declared.rounds.GJKResult.TheVariants.{Intersection, ClosestPoints, Proximity, NoIntersection}
 use Rattle.gjk.specs.declared.rounds.Gjk.{Gjk}
 use Rattle.gjk.specs.declared.rounds.Query.{Query}
 use Rattle.gjk.specs.Perturbed.{perturbed_dir}
 
 -- ---- document 01's number of each result, 0 or refusal 2, and its values: letter D has two points and a direction, M and S a direction; what a result has not got is zeros
-unfoldable pub gjk_number : GJKResult → ℕ
-gjk_number Intersection = 0
-gjk_number (ClosestPoints p1 p2 d) = 0
-gjk_number (Proximity d) = 0
-gjk_number (NoIntersection d) = 0
-gjk_number Refused = 2
+unfoldable pub gjk_number : Result GJKResult WouldPanic → ℕ
+gjk_number r = number_or_panic r
 
 pub record Values : Type 0 where
   pub p1 : Vec3
@@ -44,12 +39,15 @@ pub record Values : Type 0 where
 abbrev pub values : Vec3 → Vec3 → Vec3 → Values
 values p1 p2 d = record { p1 = p1; p2 = p2; dir = d }
 
-unfoldable pub gjk_values : GJKResult → Values
-gjk_values Intersection = values zero_v zero_v zero_v
-gjk_values (ClosestPoints p1 p2 d) = values p1 p2 d
-gjk_values (Proximity d) = values zero_v zero_v d
-gjk_values (NoIntersection d) = values zero_v zero_v d
-gjk_values Refused = values zero_v zero_v zero_v
+abbrev pub result_values : GJKResult → Values
+result_values Intersection = values zero_v zero_v zero_v
+result_values (ClosestPoints p1 p2 d) = values p1 p2 d
+result_values (Proximity d) = values zero_v zero_v d
+result_values (NoIntersection d) = values zero_v zero_v d
+
+unfoldable pub gjk_values : Result GJKResult WouldPanic → Values
+gjk_values (Ok x) = result_values x
+gjk_values (Err e) = values zero_v zero_v zero_v
 
 -- ---- what a run is asked: the support points of the two shapes, the largest distance, the exact flag; and `_eps_rel`
 pub record Search : Type 0 where
@@ -74,7 +72,7 @@ pub record Round : Type 0 where
 -- ---- a turn of the loop ends the run, or goes on
 pub data Next : Type 0 where
   Onward : Round → Next
-  Ended : GJKResult → Next
+  Ended : Result GJKResult WouldPanic → Next
 
 pub record Turn : Type 0 where
   pub simplex : VoronoiSimplex
@@ -83,7 +81,7 @@ pub record Turn : Type 0 where
 abbrev pub onward_with : VoronoiSimplex → Round → Turn
 onward_with s r = record { simplex = s; next = Onward r }
 
-abbrev pub ended_with : VoronoiSimplex → GJKResult → Turn
+abbrev pub ended_with : VoronoiSimplex → Result GJKResult WouldPanic → Turn
 ended_with s x = record { simplex = s; next = Ended x }
 
 -- a part of the loop's body goes on to the next part, with the simplex, what the loop carries and `dir`; or the turn is over, by the run's end or by the Rust's `continue`
@@ -128,18 +126,18 @@ abbrev pub max_perturbations : ℕ
 max_perturbations = 6
 
 -- `ClosestPoints` of `result(simplex, prev)`
-abbrev pub closest_at : Witnesses → Vec3 → GJKResult
-closest_at (Witnesses.At p1 p2) dir = ClosestPoints p1 p2 dir
-closest_at Witnesses.Refused dir = Refused
+abbrev pub closest_at : Result Witnesses WouldPanic → Vec3 → Result GJKResult WouldPanic
+closest_at (Ok w) dir = Ok (ClosestPoints w.point1 w.point2 dir)
+closest_at (Err e) dir = Err e
 
 module _ (f : Format) where
   -- ---- what ends a run
-  unfoldable pub closest_by : VoronoiSimplex → Bool → Vec3 → GJKResult
+  unfoldable pub closest_by : VoronoiSimplex → Bool → Vec3 → Result GJKResult WouldPanic
   closest_by s prev dir = closest_at (result_of f s prev) dir
 
   -- `if exact_dist { ClosestPoints .. } else { Proximity .. }`
-  unfoldable pub apart_by : Bool → VoronoiSimplex → Bool → Vec3 → GJKResult
-  apart_by exact s prev dir = cond exact (closest_by s prev dir) (Proximity dir)
+  unfoldable pub apart_by : Bool → VoronoiSimplex → Bool → Vec3 → Result GJKResult WouldPanic
+  apart_by exact s prev dir = cond exact (closest_by s prev dir) (Ok (Proximity dir))
 
   -- `exact_dist && best_min_bound >= -_eps_rel * support_scale`
   unfoldable pub touching : Search → Round → Bool
@@ -149,13 +147,13 @@ module _ (f : Format) where
   unfoldable pub first_round : Vec3 → Vec3 → Round
   first_round proj proj_dir = round_of proj (neg_v proj_dir) (largest f) (Ieee.neg (largest f)) zero_f 0 0
 
-  abbrev pub start_in : VoronoiSimplex → Vec3 → MaybeVec3 → Turn
-  start_in s proj (MaybeVec3.Some proj_dir) = onward_with s (first_round proj proj_dir)
-  start_in s proj MaybeVec3.None = ended_with s Intersection
+  abbrev pub start_in : VoronoiSimplex → Vec3 → Option Vec3 → Turn
+  start_in s proj (Some proj_dir) = onward_with s (first_round proj proj_dir)
+  start_in s proj None = ended_with s (Ok Intersection)
 
-  abbrev pub start_at : VoronoiSimplex → Projected → Turn
-  start_at s (Projected.At proj location) = start_in s proj (try_normalize_v f proj)
-  start_at s Projected.Refused = ended_with s Refused
+  abbrev pub start_at : VoronoiSimplex → Result Projected WouldPanic → Turn
+  start_at s (Ok p) = start_in s p.point (try_normalize_v f p.point)
+  start_at s (Err e) = ended_with s (Err e)
 
   unfoldable pub start_of : VoronoiSimplex → Turn
   start_of s = let t = project_origin_and_reduce f s in start_at t.simplex t.projection
@@ -167,7 +165,7 @@ module _ (f : Format) where
   directed s r =
       let unit = normalize_and_length_v f (neg_v r.proj) in
       let dist = unit.length in
-      cond (gt dist (eps_tol f)) (goes_on s (bounded_by r dist) unit.normalized) (over (ended_with s Intersection))
+      cond (gt dist (eps_tol f)) (goes_on s (bounded_by r dist) unit.normalized) (over (ended_with s (Ok Intersection)))
 
   -- what stands in `if max_bound >= old_max_bound`
   unfoldable pub stagnated : Search → VoronoiSimplex → Round → Vec3 → Part
@@ -175,17 +173,17 @@ module _ (f : Format) where
       cond (gt r.best_min_bound zero_f) (over (ended_with s (apart_by k.exact s true r.old_dir)))
       (cond (touching k r) (over (ended_with s (closest_by s true r.old_dir)))
       (cond (ltb r.nb_perturbs max_perturbations) (goes_on s (perturbed_round r) (perturbed_dir f dir (r.nb_perturbs + 1)))
-      (over (ended_with s Intersection))))
+      (over (ended_with s (Ok Intersection)))))
 
   -- `assert!(min_bound.is_finite())`
   unfoldable pub asserted : VoronoiSimplex → Round → Vec3 → Float → Part
-  asserted s r dir min_bound = cond (finite min_bound) (goes_on s r dir) (over (ended_with s Refused))
+  asserted s r dir min_bound = cond (finite min_bound) (goes_on s r dir) (over (ended_with s (Err would_panic)))
 
   -- `if min_bound > max_dist`, `else if !exact_dist && min_bound > 0.0 && max_bound <= max_dist`, `else if max_bound - min_bound <= _eps_rel * max_bound`
   unfoldable pub bounded : Search → VoronoiSimplex → Round → Vec3 → Float → Part
   bounded k s r dir min_bound =
-      cond (gt min_bound k.max_dist) (over (ended_with s (NoIntersection dir)))
-      (cond (not k.exact && gt min_bound zero_f && le r.max_bound k.max_dist) (over (ended_with s (Proximity r.old_dir)))
+      cond (gt min_bound k.max_dist) (over (ended_with s (Ok (NoIntersection dir))))
+      (cond (not k.exact && gt min_bound zero_f && le r.max_bound k.max_dist) (over (ended_with s (Ok (Proximity r.old_dir))))
       (cond (le (◌⊖◌ f r.max_bound min_bound) (◌⊗◌ f k.eps_rel r.max_bound)) (over (ended_with s (apart_by k.exact s false dir)))
       (goes_on s r dir)))
 
@@ -194,24 +192,24 @@ module _ (f : Format) where
   stalled k s r dir =
       cond (gt r.best_min_bound zero_f) (ended_with s (apart_by k.exact s false dir))
       (cond (touching k r) (ended_with s (closest_by s false dir))
-      (cond (ltb r.nb_perturbs max_perturbations) (onward_with s r) (ended_with s Intersection)))
+      (cond (ltb r.nb_perturbs max_perturbations) (onward_with s r) (ended_with s (Ok Intersection))))
 
-  abbrev pub added_by : Search → VoronoiSimplex → Answer → Round → Vec3 → Part
-  added_by k s Answer.Yes r dir = goes_on s r dir
-  added_by k s Answer.No r dir = over (stalled k s r dir)
-  added_by k s Answer.Refused r dir = over (ended_with s Refused)
+  abbrev pub added_by : Search → VoronoiSimplex → Result Bool WouldPanic → Round → Vec3 → Part
+  added_by k s (Ok true) r dir = goes_on s r dir
+  added_by k s (Ok false) r dir = over (stalled k s r dir)
+  added_by k s (Err e) r dir = over (ended_with s (Err e))
 
   -- `simplex.add_point(cso_point)`
   unfoldable pub added : Search → VoronoiSimplex → Round → Vec3 → Vertex → Part
   added k s r dir cso_point = let t = add_point f s cso_point in added_by k t.simplex t.answer r dir
 
   -- `if simplex.dimension() == DIM`: the origin is inside, unless the bound says that it is not; else `niter += 1; if niter == 100`
-  abbrev pub reduced_to : Search → VoronoiSimplex → Projected → Round → Vec3 → Float → Turn
-  reduced_to k s (Projected.At proj location) r dir min_bound =
+  abbrev pub reduced_to : Search → VoronoiSimplex → Result Projected WouldPanic → Round → Vec3 → Float → Turn
+  reduced_to k s (Ok p) r dir min_bound =
       cond (eqb s.dim 3)
-      (cond (ge min_bound (eps_tol f)) (ended_with s (apart_by k.exact s true dir)) (ended_with s Intersection))
-      (cond (eqb (r.niter + 1) 100) (ended_with s (NoIntersection x_v)) (onward_with s (round_after r proj dir)))
-  reduced_to k s Projected.Refused r dir min_bound = ended_with s Refused
+      (cond (ge min_bound (eps_tol f)) (ended_with s (apart_by k.exact s true dir)) (ended_with s (Ok Intersection)))
+      (cond (eqb (r.niter + 1) 100) (ended_with s (Ok (NoIntersection x_v))) (onward_with s (round_after r p.point dir)))
+  reduced_to k s (Err e) r dir min_bound = ended_with s (Err e)
 
   -- `old_dir = dir; proj = simplex.project_origin_and_reduce()`, and what stands after it
   unfoldable pub reduced : Search → VoronoiSimplex → Round → Vec3 → Float → Turn
@@ -239,7 +237,7 @@ module _ (f : Format) where
 
   -- at most n turns; none is left only where n is too small
   unfoldable pub run_of : Search → ℕ → VoronoiSimplex → Round → Gjk
-  run_of k zero s r = record { simplex = s; result = NoIntersection x_v }
+  run_of k zero s r = record { simplex = s; result = Ok (NoIntersection x_v) }
   run_of k (suc n) s r = let t = turn_of k s r in after (run_of k n) t.simplex t.next
 
 -- refusal 2 hands the simplex back as it came in

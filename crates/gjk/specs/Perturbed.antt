@@ -1,14 +1,13 @@
 -- `perturbed_dir` of src/query/gjk/gjk.rs. Definitions only.
 use Rattle.std.specs.Prelude.{ℕ, ◌-◌, ◌/◌, ◌%◌, cond, eqb, Float}
 use Rattle.std.proofs.Math.Bool.{false}
+use Rattle.std.specs.Option.{unwrap_or}
 use Rattle.std.specs.Float.Ieee as Ieee
 use Rattle.std.specs.Float.{Format}
 use Rattle.std.specs.Float.Ieee.{round}
 use Rattle.vector.specs.declared.vec3.Vec3.{Vec3}
 use Rattle.vector.specs.declared.vec3.Axis.{Axis}
 use Rattle.vector.specs.declared.vec3.Axis.TheVariants.{X, Y, Z}
-use Rattle.vector.specs.declared.vec3.MaybeVec3.{MaybeVec3}
-use Rattle.vector.specs.declared.vec3.MaybeVec3.TheVariants.{Some, None}
 use Rattle.vector.specs.Vector.{one_f, component_v, with_component_v, try_normalize_v, ◌⊕◌, ◌⊗◌}
 
 -- `(seed - 1) % DIM`, where n is `seed - 1`
@@ -18,11 +17,6 @@ axis_of n = cond (eqb (n % 3) 0) X (cond (eqb (n % 3) 1) Y Z)
 -- `if ((seed - 1) / DIM).is_multiple_of(2) { 1.0 } else { -1.0 }`, where n is `seed - 1`
 unfoldable pub sign_of : ℕ → Float
 sign_of n = cond (eqb (n / 3 % 2) 0) one_f (Ieee.neg one_f)
-
--- `unwrap_or`
-unfoldable pub unwrap_or : MaybeVec3 → Vec3 → Vec3
-unwrap_or (Some v) d = v
-unwrap_or None d = d
 
 module _ (f : Format) where
   -- `OFFSET`: 0.01, the nearest value

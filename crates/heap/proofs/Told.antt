@@ -5,7 +5,8 @@ use mathlib.Core.List.{List}
 use Prim.Native.Nat.{ℕ, ◌+◌}
 use lib.Dec.{ltb}
 use lib.Ieee.{Float}
-use Rattle.heap.specs.declared.Pushed.{Pushed}
+use Rattle.std.specs.Prelude.{Ok, Err}
+use Rattle.refusal.specs.Refusal.{no_room}
 use Rattle.heap.specs.Heap.{Heap, Entry, pushed}
 use Rattle.heap.specs.Calls.{After, after, leaves, room, push_of, push_number}
 
@@ -18,6 +19,6 @@ pub push-number : (h : Heap) (e : Entry) → push_number (push_of h e).answer �
 unfolding push_of
 push-number h e = by (ltb h.count (room h))
   where
-    by : (b : Bool) → push_number (cond b (leaves (pushed h e) (Pushed.Done (h.count + 1))) (leaves h Pushed.NoRoom)).answer ≡ cond b 0 3
+    by : (b : Bool) → push_number (cond b (leaves (pushed h e) (Ok (h.count + 1))) (leaves h (Err no_room))).answer ≡ cond b 0 3
     by true = refl
     by false = refl

@@ -1,11 +1,11 @@
 -- What the calls of this crate answer and leave, and document 01's number and values of each answer. Definitions only.
 -- A store lent as two slices is as long as the shorter one. No call returns a count above that. If one is passed all the same, the call answers
 -- refusal 3 and writes nothing.
-use Rattle.std.specs.Prelude.{ℕ, zero, suc, ◌+◌, min, Bool, true, false, cond, List, length, ltb, Float}
-use Rattle.heap.specs.Heap.{Heap, Entry, entry, no_entry, entry_at, pushed, popped}
-use Rattle.heap.specs.declared.Pushed.{Pushed}
-use Rattle.heap.specs.declared.Peeked.{Peeked}
+use Rattle.std.specs.Prelude.{ℕ, zero, suc, ◌+◌, min, Bool, true, false, cond, List, length, ltb, Float, Option, Some, None, Result, Ok, Err}
+use Rattle.heap.specs.Heap.{Heap, Entry, no_entry, entry_at, pushed, popped}
 use Rattle.heap.specs.declared.Popped.{Popped}
+use Rattle.refusal.specs.Refusal.{no_room, room_number}
+use Rattle.refusal.specs.declared.NoRoom.{NoRoom}
 
 -- what a call leaves in the two lists, and its answer
 pub record After (A : Type 0) : Type 0 where
@@ -24,36 +24,39 @@ abbrev pub room : Heap → ℕ
 room h = min (length h.faces) (length h.keys)
 
 -- `push`: the entry goes in where there is a place for it
-unfoldable pub push_of : Heap → Entry → After Pushed
-push_of h e = cond (ltb h.count (room h)) (leaves (pushed h e) (Pushed.Done (h.count + 1))) (leaves h Pushed.NoRoom)
+unfoldable pub push_of : Heap → Entry → After (Result ℕ NoRoom)
+push_of h e = cond (ltb h.count (room h)) (leaves (pushed h e) (Ok (h.count + 1))) (leaves h (Err no_room))
 
 -- `peek`, of a heap of so many entries
-unfoldable pub peek_in : Heap → ℕ → Peeked
-peek_in h zero = Peeked.Empty
-peek_in h (suc n) = cond (ltb n (room h)) (Peeked.First (entry_at h 0).face (entry_at h 0).key) Peeked.NoRoom
+unfoldable pub peek_in : Heap → ℕ → Result (Option Entry) NoRoom
+peek_in h zero = Ok None
+peek_in h (suc n) = cond (ltb n (room h)) (Ok (Some (entry_at h 0))) (Err no_room)
 
-unfoldable pub peek_of : Heap → Peeked
+unfoldable pub peek_of : Heap → Result (Option Entry) NoRoom
 peek_of h = peek_in h h.count
 
--- `pop`, of a heap of so many entries
-unfoldable pub pop_in : Heap → ℕ → After Popped
-pop_in h zero = leaves h Popped.Empty
-pop_in h (suc n) =
-    cond (ltb n (room h)) (leaves (popped h n) (Popped.First (entry_at h 0).face (entry_at h 0).key n)) (leaves h Popped.NoRoom)
+-- the entry that goes out, and how many are left
+abbrev pub popped_of : Entry → ℕ → Popped
+popped_of e n = record { entry = e; count = n }
 
-unfoldable pub pop_of : Heap → After Popped
+-- `pop`, of a heap of so many entries
+unfoldable pub pop_in : Heap → ℕ → After (Result (Option Popped) NoRoom)
+pop_in h zero = leaves h (Ok None)
+pop_in h (suc n) = cond (ltb n (room h)) (leaves (popped h n) (Ok (Some (popped_of (entry_at h 0) n)))) (leaves h (Err no_room))
+
+unfoldable pub pop_of : Heap → After (Result (Option Popped) NoRoom)
 pop_of h = pop_in h h.count
 
 -- ---- document 01's number of each answer: 0, of an empty heap too, and 3 where a place is needed that the store hasn't got; and its values, zeros where there is no entry
 
-abbrev pub push_number : Pushed → ℕ
-push_number (Pushed.Done n) = 0
-push_number Pushed.NoRoom = 3
+abbrev pub push_number : Result ℕ NoRoom → ℕ
+push_number (Ok n) = 0
+push_number (Err e) = room_number e
 
 -- how many entries there are now
-unfoldable pub push_value : Pushed → ℕ
-push_value (Pushed.Done n) = n
-push_value Pushed.NoRoom = 0
+unfoldable pub push_value : Result ℕ NoRoom → ℕ
+push_value (Ok n) = n
+push_value (Err e) = 0
 
 -- whether there is an entry, and which
 pub record Given : Type 0 where
@@ -74,22 +77,20 @@ pub record Left : Type 0 where
 abbrev pub left : Given → ℕ → Left
 left g n = record { out = g; count = n }
 
-abbrev pub peek_number : Peeked → ℕ
-peek_number (Peeked.First f k) = 0
-peek_number Peeked.Empty = 0
-peek_number Peeked.NoRoom = 3
+abbrev pub peek_number : Result (Option Entry) NoRoom → ℕ
+peek_number (Ok o) = 0
+peek_number (Err e) = room_number e
 
-unfoldable pub peek_values : Peeked → Given
-peek_values (Peeked.First f k) = given (entry f k)
-peek_values Peeked.Empty = nothing
-peek_values Peeked.NoRoom = nothing
+unfoldable pub peek_values : Result (Option Entry) NoRoom → Given
+peek_values (Ok (Some e)) = given e
+peek_values (Ok None) = nothing
+peek_values (Err e) = nothing
 
-abbrev pub pop_number : Popped → ℕ
-pop_number (Popped.First f k n) = 0
-pop_number Popped.Empty = 0
-pop_number Popped.NoRoom = 3
+abbrev pub pop_number : Result (Option Popped) NoRoom → ℕ
+pop_number (Ok o) = 0
+pop_number (Err e) = room_number e
 
-unfoldable pub pop_values : Popped → Left
-pop_values (Popped.First f k n) = left (given (entry f k)) n
-pop_values Popped.Empty = left nothing 0
-pop_values Popped.NoRoom = left nothing 0
+unfoldable pub pop_values : Result (Option Popped) NoRoom → Left
+pop_values (Ok (Some p)) = left (given p.entry) p.count
+pop_values (Ok None) = left nothing 0
+pop_values (Err e) = left nothing 0

@@ -6,11 +6,7 @@
 use Rattle.std.specs.Prelude.{ℕ, zero, suc, ◌+◌, ◌*◌, ◌/◌, Bool, false, cond, List, get_or, set, ltb, pos, Float}
 use Rattle.std.specs.Float.{nan, fin}
 use Rattle.std.specs.Float.Ieee.{lt}
-
--- a face and its key, the Rust's `FaceId`
-pub record Entry : Type 0 where
-  pub face : ℕ
-  pub key : Float
+pub use Rattle.heap.specs.declared.Entry.{Entry}
 
 -- the entries are those at the places below the count
 pub record Heap : Type 0 where
@@ -18,6 +14,7 @@ pub record Heap : Type 0 where
   pub keys : List Float
   pub count : ℕ
 
+-- a face and its key, the Rust's `FaceId`
 abbrev pub entry : ℕ → Float → Entry
 entry f k = record { face = f; key = k }
 

@@ -6,21 +6,17 @@ ghost use Rattle.heap.specs.Heap.{heap, placed, swap as swapped, rise as risen, 
 pub(crate) fn places(faces: &[usize], keys: &[f32]) -> usize
     ensures { result ≡ min (length faces.now) (length keys.now) }
 {
-    let n = keys.len();
-    if faces.len() < n { faces.len() } else { n }
+    faces.len().min(keys.len())
 }
 
 // The entries at i and j change places.
+#[tactic(auto, unfolding(crate::specs::Heap::swap))]
 fn swap(faces: &mut [usize], keys: &mut [f32], i: usize, j: usize)
     requires { (i < min (length faces.old) (length keys.old)) × (j < min (length faces.old) (length keys.old)) }
     ensures { (n : ℕ) → heap faces.new keys.new n ≡ swapped (heap faces.old keys.old n) i j }
 {
-    let face = faces[i];
-    let key = keys[i];
-    faces[i] = faces[j];
-    keys[i] = keys[j];
-    faces[j] = face;
-    keys[j] = key;
+    faces.swap(i, j);
+    keys.swap(i, j);
 }
 
 // The entry at `from` rises while its parent is strictly less: `sift_up`.
@@ -41,6 +37,7 @@ pub(crate) fn rise(faces: &mut [usize], keys: &mut [f32], from: usize)
 }
 
 // The greater of the children at `child` and after it, the right one where neither is.
+#[tactic(auto, unfolding(crate::specs::Heap::greater))]
 fn greater(keys: &[f32], child: usize) -> usize
     requires { child + 1 < length keys.now }
     ensures { result ≡ greater_of keys.now child }

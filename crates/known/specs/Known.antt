@@ -1,5 +1,5 @@
 -- The starred known cases of document 01, as one table of statements about the definitions. Definitions only.
-use Rattle.std.specs.Prelude.{◌≡◌, false, List, [], ◌∷◌, ℕ, pos, negsuc, length, take, replicate, Float}
+use Rattle.std.specs.Prelude.{◌≡◌, false, List, [], ◌∷◌, ℕ, pos, negsuc, length, take, replicate, Float, Ok, Err}
 use Rattle.std.specs.Float.{fin, binary32}
 use Rattle.std.specs.Float.Ieee.{of_bits, to_bits}
 use Rattle.number.specs.Root.{root}
@@ -7,10 +7,8 @@ use Rattle.vector.specs.Vector.{vec3, zero_f, one_f, two_f, zero_v}
 use Rattle.shape.specs.declared.vertex.Vertex.{Vertex}
 use Rattle.shape.specs.Vertex.{single_point}
 use Rattle.tetrahedron.specs.declared.Tetrahedron.{Tetrahedron}
-use Rattle.tetrahedron.specs.declared.TetrahedronProjection.{TetrahedronProjection}
-use Rattle.tetrahedron.specs.declared.TetrahedronProjection.TheVariants.{At}
 use Rattle.tetrahedron.specs.declared.TetrahedronPointLocation.TheVariants.{OnVertex}
-use Rattle.tetrahedron.specs.Tetrahedron.{project_tetrahedron}
+use Rattle.tetrahedron.specs.Tetrahedron.{TetrahedronProjection, project_tetrahedron}
 use Rattle.simplex.specs.declared.voronoi_simplex.VoronoiSimplex.{VoronoiSimplex}
 use Rattle.simplex.specs.Simplex.{simplex_of}
 use Rattle.reduction.specs.declared.location.Location.TheVariants.{OnFace}
@@ -20,8 +18,8 @@ use Rattle.epa_polytope.specs.declared.types.Lost.{Lost}
 use Rattle.epa_polytope.specs.declared.types.End.TheVariants.{Nothing}
 use Rattle.epa_polytope.specs.Stores.{State}
 use Rattle.epa_polytope.specs.Steps.{ended, enqueue, queue_face}
-use Rattle.casefile.specs.declared.numbers.NumberAnswer.TheVariants.{Read, Bad}
-use Rattle.casefile.specs.Numbers.{encode, decode_number}
+use Rattle.casefile.specs.declared.numbers.NumberError.TheVariants.{Malformed}
+use Rattle.casefile.specs.Numbers.{encode, read, decode_number}
 
 -- a row of the table
 pub data Case : Type 0 where
@@ -53,13 +51,13 @@ reduced_to (u ∷ v ∷ w ∷ x ∷ l) = four_corners
 abbrev pub Holds : Case → Type 0
 Holds (root_of b r) = to_bits binary32 (root binary32 (of_bits binary32 b)) ≡ r
 Holds (equal_keys n order) = order_of (replicate n one_f) ≡ order
-Holds (projects t p) = project_tetrahedron binary32 t zero_v ≡ p
+Holds (projects t p) = project_tetrahedron binary32 t zero_v ≡ Ok p
 Holds (face_acd given left) =
     (take 3 (reduced_to given).vertices ≡ corner_at 0 ∷ corner_at 3 ∷ corner_at 2 ∷ []) × ((reduced_to given).proj ≡ left)
 Holds (accepts tol key) = (why : Lost) (i : ℕ) (s : State) → queue_face why (of_bits binary32 tol) i (of_bits binary32 key) s ≡ enqueue i (of_bits binary32 key) s
 Holds (refuses tol key) = (why : Lost) (i : ℕ) (s : State) → queue_face why (of_bits binary32 tol) i (of_bits binary32 key) s ≡ ended (Nothing why) s
-Holds (travels x bytes) = (encode (to_bits binary32 x) ≡ bytes) × (decode_number bytes 0 ≡ Read (to_bits binary32 x) (length bytes))
-Holds (malformed bytes) = decode_number bytes 0 ≡ Bad
+Holds (travels x bytes) = (encode (to_bits binary32 x) ≡ bytes) × (decode_number bytes 0 ≡ read (to_bits binary32 x) (length bytes))
+Holds (malformed bytes) = decode_number bytes 0 ≡ Err Malformed
 
 abbrev pub All : List Case → Type 0
 All [] = Unit {0}
@@ -88,7 +86,7 @@ table =
     ∷ root_of 0xBF800000 0x7FC00000
     ∷ equal_keys 4 (0 ∷ 2 ∷ 1 ∷ 3 ∷ [])
     ∷ equal_keys 3 (0 ∷ 1 ∷ 2 ∷ [])
-    ∷ projects (record { a = vec3 one_f one_f one_f; b = vec3 two_f one_f one_f; c = vec3 one_f two_f one_f; d = vec3 one_f one_f two_f }) (At (vec3 one_f one_f one_f) (OnVertex 0))
+    ∷ projects (record { a = vec3 one_f one_f one_f; b = vec3 two_f one_f one_f; c = vec3 one_f two_f one_f; d = vec3 one_f one_f two_f }) (record { point = vec3 one_f one_f one_f; location = OnVertex 0 })
     ∷ face_acd (half ∷ three_eighths ∷ eighth ∷ []) (half ∷ eighth ∷ three_eighths ∷ [])
     ∷ accepts 0x35A00000 0x35A00000
     ∷ refuses 0x35A00000 0x35A00001

@@ -4,16 +4,17 @@ use mathlib.Core.Path.{◌≡◌, refl}
 use mathlib.Core.List.{List}
 use native.Mathlib.Omega.{arith}
 use lib.ListN.{length, length-append}
+use Rattle.std.specs.Prelude.{Ok}
 use lib.Ieee.{Float, Format, binary32, binary64}
 use borrow.Author.Tests.{le-leb}
 use Rattle.vector.specs.declared.vec3.Vec3.{Vec3}
 use Rattle.lines.specs.Text.{place_of, hex_pair, hex_of, decimal_of}
 use Rattle.lines.specs.Lines.{float_text, vector_text, three_text, count_text, counts_text, floats_text_of, counts_text_of, line_of, bad_line, last_line}
-use Rattle.lines.specs.declared.line.Counts.{Counts}
+use Rattle.counts.specs.declared.Counts.{Counts}
 use Rattle.lines.specs.declared.line.Outcome.{Outcome}
 use Rattle.lines.specs.declared.line.Outcome.TheVariants.{ClosestPoints, Proximity, NoIntersection, Penetration, NoAnswer, Panic, NoPlace}
-use Rattle.lines.specs.declared.text.Placed.TheVariants.{Next}
-use Rattle.lines.proofs.Puts.{decimal-length}
+use Rattle.std.proofs.Common.{append_assoc}
+use Rattle.lines.proofs.Puts.{hex-length, decimal-length}
 
 -- a float's: a space, and the digits of its word
 abbrev pub float_size : Format → ℕ
@@ -72,7 +73,7 @@ unfolding line_of
 line-length f n o = simp length-append (omega (arith, number-length n, floats-length f o, five-length o))
 
 -- a place with so many bytes after it, 209 of f32, has room for any line
-pub line-fits : (f : Format) (out : List ℕ) (at n : ℕ) (o : Outcome) → at + (128 + 9 * float_size f) ≤ length out → (place_of out at (line_of f n o)).answer ≡ Next (at + length (line_of f n o))
+pub line-fits : (f : Format) (out : List ℕ) (at n : ℕ) (o : Outcome) → at + (128 + 9 * float_size f) ≤ length out → (place_of out at (line_of f n o)).answer ≡ Ok (at + length (line_of f n o))
 unfolding place_of
 line-fits f out at n o h = rw (le-leb (at + length (line_of f n o)) (length out) (omega (arith, line-length f n o)))
 
@@ -83,3 +84,6 @@ bad-length n = simp length-append (omega (arith, number-length n))
 pub last-length : (n : ℕ) → length (last_line n) ≤ 27
 unfolding last_line
 last-length n = simp length-append (omega (arith, number-length n))
+
+-- what the functions that put a line together need: how long the parts are, and that parts are put one after the other
+pub ruleset parts = (append_assoc, length-append, hex-length, float-length, vector-length, three-length, number-length, count-length, counts-length, floats-length, five-length)

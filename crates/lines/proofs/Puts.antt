@@ -1,58 +1,26 @@
--- Bytes that went into a slice: one text after another is both in one, and what was put into a slice from its start on is what its first places hold. Assumes nothing.
-use Prim.Native.Nat.{ℕ, zero, suc, ◌+◌, ◌/◌, ◌≤◌, ◌<◌}
-use mathlib.Core.Path.{◌≡◌, refl, sym, ap, ◌∙◌}
+-- Where a text has room in a slice and where not, how long texts are, and a decimal number's digits as the code takes them. Assumes nothing.
+use Prim.Native.Nat.{ℕ, zero, suc, ◌+◌, ◌-◌, ◌/◌, ◌≤◌, ◌<◌}
+use mathlib.Core.Path.{◌≡◌, refl}
 use mathlib.Core.Bool.{Bool, true, false, cond}
 use mathlib.Core.List.{List, [], ◌∷◌, ◌++◌}
-use native.Mathlib.Nat.{add-zero}
-use native.Mathlib.Numerals.{add-one}
 use native.Mathlib.Omega.{arith}
-use lib.ListN.{length, take, drop, get_or, set, length-append}
-use lib.Seq.{sets, sets-eq, length-take-le, take-suc, take_at}
+use lib.ListN.{length, take, drop, length-append}
+use lib.Seq.{sets-eq}
 use lib.Dec.{ltb}
 use borrow.Author.Tests.{le-leb, lt-leb, lt-ltb, le-ltb}
-use Rattle.lines.specs.declared.text.Placed.TheVariants.{Next, NoRoom}
-use Rattle.lines.specs.Text.{Put, after, place_of, hex_pair, hex_of, digit, decimal_in}
-
-sets-append : (l m o : List ℕ) (at : ℕ) → sets o at (l ++ m) ≡ sets (sets o at l) (at + length l) m
-sets-append [] m o at = rw (add-zero at)
-sets-append (x ∷ l) m o at = sets-append l m (set o at x) (suc at) ∙ ap (λ (k : ℕ). sets (sets (set o at x) (suc at) l) k m) (omega arith)
-
--- one text after another
-pub then : {o l o' m o'' : List ℕ} {at next last : ℕ} → Put o at l o' next → Put o' next m o'' last → Put o at (l ++ m) o'' last
-then {o} {l} {o'} {m} {o''} {at} {next} {last} p q =
-    record {
-      written = q.written ∙ rw (p.written, p.place) (sym (sets-append l m o at));
-      place = omega (arith, p.place, q.place, length-append l m);
-    }
-
--- no text
-pub nothing : (o : List ℕ) (at : ℕ) → Put o at [] o at
-nothing o at = record { written = refl; place = omega arith }
-
--- a turn of the loop that copies
-pub one_more : (o t : List ℕ) (at i : ℕ) → i < length t → set (sets o at (take i t)) (at + i) (get_or t i 0) ≡ sets o at (take (i + 1) t)
-one_more o t at i h =
-    let k : length (take i t) ≡ i = length-take-le i t (omega arith) in
-    sym (rw (add-one, take-suc t i 0, sets-append (take i t) (get_or t i 0 ∷ []) o at, k))
-
--- what the first places hold
-pub front : {o l o' : List ℕ} {next : ℕ} → Put o 0 l o' next → length l ≤ length o → take next o' ≡ l
-front {o} {l} {o'} {next} p h =
-    let e : 0 + length l ≤ length o = omega arith in
-    let n : length l ≡ next = omega (arith, p.place) in
-    rw (p.written, sets-eq l o 0 e) (take_at l (drop (0 + length l) o) next n)
-
--- how far a text of at most m bytes goes
-pub within : {o l o' : List ℕ} {at next : ℕ} (m : ℕ) → Put o at l o' next → length l ≤ m → next ≤ at + m
-within m p h = omega (arith, p.place)
+use Rattle.std.specs.Prelude.{Ok, Err}
+use Rattle.std.proofs.Common.{append_assoc}
+use Rattle.std.proofs.lemmas.List.{drop-drop}
+use Rattle.refusal.specs.Refusal.{no_room as refused}
+use Rattle.lines.specs.Text.{after, place_of, hex_pair, hex_of, digit, decimal_in}
 
 -- ---- where there is room, and where not
 
-pub there : {o l o' : List ℕ} {at next : ℕ} → Put o at l o' next → at + length l ≤ length o → after o' (Next next) ≡ place_of o at l
+pub there : (o l : List ℕ) (at : ℕ) → at + length l ≤ length o → after (take at o ++ (l ++ drop (length l) (drop at o))) (Ok (at + length l)) ≡ place_of o at l
 unfolding place_of
-there {o} {l} {o'} {at} {next} p h = rw (le-leb (at + length l) (length o) h, p.written, p.place)
+there o l at h = rw (le-leb (at + length l) (length o) h, sets-eq l o at h, append_assoc, drop-drop)
 
-pub no_room : (o l : List ℕ) (at : ℕ) → length o < at + length l → after o NoRoom ≡ place_of o at l
+pub no_room : (o l : List ℕ) (at : ℕ) → length o < at + length l → after o (Err refused) ≡ place_of o at l
 unfolding place_of
 no_room o l at h = rw (lt-leb (at + length l) (length o) h)
 
@@ -89,6 +57,11 @@ unfolding decimal_in
 decimal-one zero n z h = absurd (z refl)
 decimal-one (suc k) n z h = rw (lt-ltb n 10 h)
 
-pub decimal-more : (k m n : ℕ) → k ≡ suc m → 10 ≤ n → decimal_in k n ≡ decimal_in m (n / 10) ++ digit n ∷ []
+pub decimal-more : (k n : ℕ) → (k ≡ 0 → ⊥) → 10 ≤ n → decimal_in k n ≡ decimal_in (k - 1) (n / 10) ++ digit n ∷ []
 unfolding decimal_in
-decimal-more k m n e h = rw (e, le-ltb n 10 h)
+decimal-more zero n z h = absurd (z refl)
+decimal-more (suc k) n z h =
+    let e : suc k - 1 ≡ k = omega arith in
+    rw (le-ltb n 10 h, e)
+
+pub ruleset decimals = (append_assoc, length-append, decimal-length, decimal-cut, decimal-one, decimal-more)

@@ -1,13 +1,12 @@
 -- The lines of output (document 01, "Case file and vote"), as lists of bytes, over any format. Definitions only.
-use Rattle.std.specs.Prelude.{ℕ, ◌/◌, List, [], ◌∷◌, ◌++◌, Float}
+use Rattle.std.specs.Prelude.{ℕ, ◌/◌, List, [], ◌∷◌, ◌++◌, Float, Option, Some, None}
 use Rattle.std.specs.Float.{Format, binary32, binary64}
 use Rattle.std.specs.Float.Ieee.{to_bits}
 use Rattle.vector.specs.Vector.{zero_v}
 use Rattle.vector.specs.declared.vec3.Vec3.{Vec3}
 use Rattle.lines.specs.Text.{hex_of, decimal_of}
-use Rattle.lines.specs.declared.line.Counts.{Counts}
-use Rattle.lines.specs.declared.line.MaybeCounts.{MaybeCounts}
-use Rattle.lines.specs.declared.line.MaybeCounts.TheVariants.{Some, None}
+use Rattle.counts.specs.Counts.{no_counts}
+use Rattle.counts.specs.declared.Counts.{Counts}
 use Rattle.lines.specs.declared.line.Outcome.{Outcome}
 use Rattle.lines.specs.declared.line.Outcome.TheVariants.{ClosestPoints, Proximity, NoIntersection, Penetration, NoAnswer, Panic, NoPlace}
 
@@ -86,9 +85,6 @@ pub record Values : Type 0 where
 abbrev pub values : Vec3 → Vec3 → Vec3 → Counts → Values
 values p1 p2 n c = record { point1 = p1; point2 = p2; normal = n; counts = c }
 
-abbrev pub no_counts : Counts
-no_counts = record { expansions = 0; made = 0; live = 0; edges = 0; missed = 0 }
-
 unfoldable pub outcome_values : Outcome → Values
 outcome_values (ClosestPoints a b n) = values a b n no_counts
 outcome_values (Proximity v) = values zero_v zero_v v no_counts
@@ -119,6 +115,6 @@ last_line n = 99 ∷ 97 ∷ 115 ∷ 101 ∷ 115 ∷ 32 ∷ [] ++ decimal_of n ++
 -- ---- for the private functions
 
 -- what `put_counts` writes of the counts that `counts_of` found
-unfoldable pub maybe_text : MaybeCounts → List ℕ
+unfoldable pub maybe_text : Option Counts → List ℕ
 maybe_text (Some c) = counts_text c
 maybe_text None = []

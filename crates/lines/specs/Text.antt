@@ -1,27 +1,22 @@
 -- Text as lists of bytes: how it goes into a lent slice, and numbers as hexadecimal and decimal digits. Definitions only.
-use Rattle.std.specs.Prelude.{ℕ, zero, suc, ◌+◌, ◌/◌, ◌%◌, ◌≡◌, cond, List, [], ◌∷◌, ◌++◌, length, ltb, leb}
+use Rattle.std.specs.Prelude.{ℕ, zero, suc, ◌+◌, ◌/◌, ◌%◌, cond, List, [], ◌∷◌, ◌++◌, length, ltb, leb, Result, Ok, Err}
 use Rattle.std.proofs.lemmas.List.Edits.{sets}
-use Rattle.lines.specs.declared.text.Placed.{Placed}
-use Rattle.lines.specs.declared.text.Placed.TheVariants.{Next, NoRoom}
+use Rattle.refusal.specs.Refusal.{no_room}
+use Rattle.refusal.specs.declared.NoRoom.{NoRoom}
 
 -- ---- into a slice
 
 -- what a call leaves in the slice, and its answer
 pub record After : Type 0 where
   pub bytes : List ℕ
-  pub answer : Placed
+  pub answer : Result ℕ NoRoom
 
-abbrev pub after : List ℕ → Placed → After
+abbrev pub after : List ℕ → Result ℕ NoRoom → After
 after o p = record { bytes = o; answer = p }
 
 -- The bytes l go to the places from `at` on, where all of them have a place; elsewhere nothing is written
 unfoldable pub place_of : List ℕ → ℕ → List ℕ → After
-place_of o at l = cond (leb (at + length l) (length o)) (after (sets o at l) (Next (at + length l))) (after o NoRoom)
-
--- what the private functions ensure, where there is room: the bytes l went to the places from `at` on, and `next` is the place after them
-pub record Put (o : List ℕ) (at : ℕ) (l o' : List ℕ) (next : ℕ) : Type 0 where
-  pub written : o' ≡ sets o at l
-  pub place : next ≡ at + length l
+place_of o at l = cond (leb (at + length l) (length o)) (after (sets o at l) (Ok (at + length l))) (after o (Err no_room))
 
 -- ---- hexadecimal, in upper case
 

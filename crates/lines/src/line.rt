@@ -1,26 +1,16 @@
 // The lines that a program prints: its first, one for each record, and its last. Floats are eight hexadecimal digits,
 // all NaNs alike, and counts and record numbers decimal.
-ghost use Rattle.std.specs.Prelude.{◌≡◌, ◌+◌, ◌≤◌, length};
+ghost use Rattle.std.specs.Prelude.{◌≡◌, ◌+◌, ◌++◌, ◌<◌, ◌≤◌, length};
 ghost use Rattle.std.specs.Float.{binary32};
-ghost use Rattle.lines.specs.Text.{Put, after, place_of};
+ghost use Rattle.lines.specs.Text.{after, place_of};
 ghost use Rattle.lines.specs.Lines.{float_text, vector_text, three_text, count_text, counts_text, letter_of, floats_text_of, counts_text_of};
 ghost use Rattle.lines.specs.Lines.{line_of, first_line, bad_line, last_line, maybe_text};
 
 use crate::text;
-use crate::text::Placed;
+use crate::text::{DRAFT_BYTES, Draft};
+use counts::Counts;
+use refusal::NoRoom;
 use vector::Vec3;
-
-// The counts of a run: expansions completed, faces made, faces live at the end, most edges in one pass, lookups that missed.
-// A type of its own: with that of `epa` whoever prints a line would depend on the polytope, and the polytope has no business
-// with lines. The crate `outcome`, which depends on both, turns one into the other.
-#[derive(Clone, Copy)]
-pub struct Counts {
-    pub expansions: usize,
-    pub made: usize,
-    pub live: usize,
-    pub edges: usize,
-    pub missed: usize,
-}
 
 // What a record's line tells, with its letter.
 #[derive(Clone, Copy)]
@@ -44,100 +34,96 @@ pub enum Outcome {
 // ---- floats
 
 // A space, and the number's bits.
-fn put_float(out: &mut [u8], at: usize, x: f32) -> usize
-    requires { at + 9 ≤ length out.old }
-    ensures { Put out.old at (float_text binary32 x) out.new result }
+#[tactic(auto, using(crate::proofs::Lengths::parts), unfolding(crate::specs::Lines::float_text))]
+fn put_float(line: &mut Draft, x: f32)
+    requires { length line.old + 9 ≤ DRAFT_BYTES }
+    ensures { line.new ≡ line.old ++ float_text binary32 x }
 {
-    let next = text::put_byte(out, at, b' ');
-    text::put_hex(out, next, number::to_bits(x))
+    line.push(b' ');
+    line.push_hex(number::to_bits(x));
 }
 
-fn put_vector(out: &mut [u8], at: usize, v: Vec3) -> usize
-    requires { at + 27 ≤ length out.old }
-    ensures { Put out.old at (vector_text binary32 v) out.new result }
+#[tactic(auto, using(crate::proofs::Lengths::parts), unfolding(crate::specs::Lines::vector_text))]
+fn put_vector(line: &mut Draft, v: Vec3)
+    requires { length line.old + 27 ≤ DRAFT_BYTES }
+    ensures { line.new ≡ line.old ++ vector_text binary32 v }
 {
-    let second = put_float(out, at, v.x);
-    let third = put_float(out, second, v.y);
-    put_float(out, third, v.z)
+    put_float(line, v.x);
+    put_float(line, v.y);
+    put_float(line, v.z);
 }
 
-fn put_three(out: &mut [u8], at: usize, a: Vec3, b: Vec3, c: Vec3) -> usize
-    requires { at + 81 ≤ length out.old }
-    ensures { Put out.old at (three_text binary32 a b c) out.new result }
+#[tactic(auto, using(crate::proofs::Lengths::parts), unfolding(crate::specs::Lines::three_text))]
+fn put_three(line: &mut Draft, a: Vec3, b: Vec3, c: Vec3)
+    requires { length line.old + 81 ≤ DRAFT_BYTES }
+    ensures { line.new ≡ line.old ++ three_text binary32 a b c }
 {
-    let second = put_vector(out, at, a);
-    let third = put_vector(out, second, b);
-    put_vector(out, third, c)
+    put_vector(line, a);
+    put_vector(line, b);
+    put_vector(line, c);
 }
 
-fn put_floats(out: &mut [u8], at: usize, outcome: Outcome) -> usize
-    requires { at + 81 ≤ length out.old }
-    ensures { Put out.old at (floats_text_of binary32 outcome) out.new result }
+#[tactic(auto, using(crate::proofs::Lengths::parts), unfolding(crate::specs::Lines::floats_text_of))]
+fn put_floats(line: &mut Draft, outcome: Outcome)
+    requires { length line.old + 81 ≤ DRAFT_BYTES }
+    ensures { line.new ≡ line.old ++ floats_text_of binary32 outcome }
 {
     match outcome {
-        Outcome::ClosestPoints(a, b, n) => put_three(out, at, a, b, n),
-        Outcome::Proximity(v) => put_vector(out, at, v),
-        Outcome::NoIntersection(v) => put_vector(out, at, v),
-        Outcome::Penetration(a, b, n, _) => put_three(out, at, a, b, n),
-        Outcome::NoAnswer(_) => at,
-        Outcome::Panic => at,
-        Outcome::NoPlace(_) => at,
+        Outcome::ClosestPoints(a, b, n) | Outcome::Penetration(a, b, n, _) => {
+            put_three(line, a, b, n)
+        }
+        Outcome::Proximity(v) | Outcome::NoIntersection(v) => put_vector(line, v),
+        Outcome::NoAnswer(_) | Outcome::Panic | Outcome::NoPlace(_) => (),
     }
 }
 
 // ---- counts
 
 // A space, and the count.
-fn put_count(out: &mut [u8], at: usize, n: usize) -> usize
-    requires { at + 21 ≤ length out.old }
-    ensures { Put out.old at (count_text n) out.new result }
+#[tactic(auto, using(crate::proofs::Lengths::parts), unfolding(crate::specs::Lines::count_text))]
+fn put_count(line: &mut Draft, n: usize)
+    requires { length line.old + 21 ≤ DRAFT_BYTES }
+    ensures { line.new ≡ line.old ++ count_text n }
 {
-    let next = text::put_byte(out, at, b' ');
-    text::put_decimal(out, next, n as u64, 19)
+    line.push(b' ');
+    line.push_decimal(n as u64);
 }
 
-fn put_five(out: &mut [u8], at: usize, c: Counts) -> usize
-    requires { at + 105 ≤ length out.old }
-    ensures { Put out.old at (counts_text c) out.new result }
+#[tactic(auto, using(crate::proofs::Lengths::parts), unfolding(crate::specs::Lines::counts_text))]
+fn put_five(line: &mut Draft, c: Counts)
+    requires { length line.old + 105 ≤ DRAFT_BYTES }
+    ensures { line.new ≡ line.old ++ counts_text c }
 {
-    let second = put_count(out, at, c.expansions);
-    let third = put_count(out, second, c.made);
-    let fourth = put_count(out, third, c.live);
-    let fifth = put_count(out, fourth, c.edges);
-    put_count(out, fifth, c.missed)
+    put_count(line, c.expansions);
+    put_count(line, c.made);
+    put_count(line, c.live);
+    put_count(line, c.edges);
+    put_count(line, c.missed);
 }
 
 // The counts that an outcome carries.
-#[derive(Clone, Copy)]
-enum MaybeCounts {
-    Some(Counts),
-    None,
-}
-
-fn counts_of(outcome: Outcome) -> MaybeCounts
+#[tactic(auto, unfolding(crate::specs::Lines::counts_text_of, crate::specs::Lines::maybe_text))]
+fn counts_of(outcome: Outcome) -> Option<Counts>
     ensures { maybe_text result ≡ counts_text_of outcome }
 {
     match outcome {
-        Outcome::ClosestPoints(_, _, _) => MaybeCounts::None,
-        Outcome::Proximity(_) => MaybeCounts::None,
-        Outcome::NoIntersection(_) => MaybeCounts::None,
-        Outcome::Penetration(_, _, _, c) => MaybeCounts::Some(c),
-        Outcome::NoAnswer(c) => MaybeCounts::Some(c),
-        Outcome::Panic => MaybeCounts::None,
-        Outcome::NoPlace(c) => MaybeCounts::Some(c),
+        Outcome::Penetration(_, _, _, c) | Outcome::NoAnswer(c) | Outcome::NoPlace(c) => Some(c),
+        Outcome::ClosestPoints(_, _, _)
+        | Outcome::Proximity(_)
+        | Outcome::NoIntersection(_)
+        | Outcome::Panic => None,
     }
 }
 
 // One call of `put_five`, so that the program has its code once: with one in each arm of a `match` on the outcome LLVM copies
 // it three times, and the program passes the limit of docs/DECISIONS.md, section 17.
-fn put_counts(out: &mut [u8], at: usize, outcome: Outcome) -> usize
-    requires { at + 105 ≤ length out.old }
-    ensures { Put out.old at (counts_text_of outcome) out.new result }
+#[tactic(auto, using(crate::proofs::Lengths::parts), unfolding(crate::specs::Lines::maybe_text))]
+fn put_counts(line: &mut Draft, outcome: Outcome)
+    requires { length line.old + 105 ≤ DRAFT_BYTES }
+    ensures { line.new ≡ line.old ++ counts_text_of outcome }
 {
-    let counts = counts_of(outcome);
-    match counts {
-        MaybeCounts::Some(c) => put_five(out, at, c),
-        MaybeCounts::None => at,
+    if let Some(c) = counts_of(outcome) {
+        put_five(line, c);
     }
 }
 
@@ -158,66 +144,58 @@ pub fn letter(outcome: Outcome) -> u8
     }
 }
 
-fn put_line(out: &mut [u8], at: usize, number: u64, outcome: Outcome) -> usize
-    requires { at + 209 ≤ length out.old }
-    ensures { Put out.old at (line_of binary32 number outcome) out.new result }
-{
-    let space = text::put_decimal(out, at, number, 19);
-    let mark = text::put_byte(out, space, b' ');
-    let floats = text::put_byte(out, mark, letter(outcome));
-    let counts = put_floats(out, floats, outcome);
-    let end = put_counts(out, counts, outcome);
-    text::put_byte(out, end, b'\n')
-}
-
 // A record's line: its number from 1, the letter, floats and counts.
-pub fn write_line(out: &mut [u8], at: usize, number: u64, outcome: Outcome) -> Placed
+#[tactic(auto, using(crate::proofs::Lengths::parts), unfolding(crate::specs::Lines::line_of))]
+pub fn write_line(out: &mut [u8], at: usize, number: u64, outcome: Outcome) -> Result<usize, NoRoom>
     ensures { after out.new result ≡ place_of out.old at (line_of binary32 number outcome) }
 {
-    let mut line = [0u8; 216];
-    let n = put_line(&mut line, 0, number, outcome);
-    text::place(out, at, &line[..n])
+    let mut line = Draft::new();
+    line.push_decimal(number);
+    line.push(b' ');
+    line.push(letter(outcome));
+    put_floats(&mut line, outcome);
+    put_counts(&mut line, outcome);
+    line.push(b'\n');
+    text::place(out, at, line.bytes())
 }
 
 // The first line: `separation 1`.
-pub fn write_first(out: &mut [u8], at: usize) -> Placed
+#[tactic(auto, unfolding(crate::specs::Lines::first_line))]
+pub fn write_first(out: &mut [u8], at: usize) -> Result<usize, NoRoom>
     ensures { after out.new result ≡ place_of out.old at first_line }
 {
     text::place(out, at, b"separation 1\n")
 }
 
-fn put_bad(out: &mut [u8], at: usize, offset: u64) -> usize
-    requires { at + 25 ≤ length out.old }
-    ensures { Put out.old at (bad_line offset) out.new result }
+// In place of a record's line where it is malformed: `bad`, and the offset. It has 25 bytes at most, and room for so many is asked.
+#[tactic(auto, using(crate::proofs::Lengths::parts), unfolding(crate::specs::Lines::bad_line))]
+pub fn put_bad(line: &mut Draft, offset: u64)
+    ensures fits { length line.old + 25 ≤ DRAFT_BYTES → line.new ≡ line.old ++ bad_line offset }
+    ensures full { DRAFT_BYTES < length line.old + 25 → line.new ≡ line.old }
 {
-    let digits = text::copy(out, at, b"bad ");
-    let end = text::put_decimal(out, digits, offset, 19);
-    text::put_byte(out, end, b'\n')
+    if line.bytes().len() <= DRAFT_BYTES - 25 {
+        line.push_all(b"bad ");
+        line.push_decimal(offset);
+        line.push(b'\n');
+    }
 }
 
-// In place of a record's line where it is malformed: `bad`, and the offset.
-pub fn write_bad(out: &mut [u8], at: usize, offset: u64) -> Placed
+pub fn write_bad(out: &mut [u8], at: usize, offset: u64) -> Result<usize, NoRoom>
     ensures { after out.new result ≡ place_of out.old at (bad_line offset) }
 {
-    let mut line = [0u8; 32];
-    let n = put_bad(&mut line, 0, offset);
-    text::place(out, at, &line[..n])
-}
-
-fn put_last(out: &mut [u8], at: usize, cases: u64) -> usize
-    requires { at + 27 ≤ length out.old }
-    ensures { Put out.old at (last_line cases) out.new result }
-{
-    let digits = text::copy(out, at, b"cases ");
-    let end = text::put_decimal(out, digits, cases, 19);
-    text::put_byte(out, end, b'\n')
+    let mut line = Draft::new();
+    put_bad(&mut line, offset);
+    text::place(out, at, line.bytes())
 }
 
 // The last line: `cases`, and how many records were finished.
-pub fn write_last(out: &mut [u8], at: usize, cases: u64) -> Placed
+#[tactic(auto, using(crate::proofs::Lengths::parts), unfolding(crate::specs::Lines::last_line))]
+pub fn write_last(out: &mut [u8], at: usize, cases: u64) -> Result<usize, NoRoom>
     ensures { after out.new result ≡ place_of out.old at (last_line cases) }
 {
-    let mut line = [0u8; 32];
-    let n = put_last(&mut line, 0, cases);
-    text::place(out, at, &line[..n])
+    let mut line = Draft::new();
+    line.push_all(b"cases ");
+    line.push_decimal(cases);
+    line.push(b'\n');
+    text::place(out, at, line.bytes())
 }

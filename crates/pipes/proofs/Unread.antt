@@ -1,7 +1,7 @@
 -- What is not read yet is not lost: the window of an answered record stands at the same offset of the file as the given one (`same-offset`), with the bytes of that one that were not read first
--- (`same_bytes`), and at the file's end there was none (`none_left`). A run that has no record is over (`over`). Assumes nothing.
+-- (`same_bytes`), and at the file's end there was none (`none_left`). Assumes nothing.
 use Prim.Native.Nat.{ℕ, ◌+◌, ◌-◌, ◌≤◌}
-use mathlib.Core.Path.{◌≡◌, refl, sym, ap, subst, ◌∙◌}
+use mathlib.Core.Path.{◌≡◌, refl, ap, subst, ◌∙◌}
 use mathlib.Core.List.{List}
 use mathlib.Core.Bool.{Bool, true, false, cond}
 use native.Mathlib.Omega.{arith}
@@ -11,11 +11,10 @@ use lib.Seq.{sets-eq, take_at, length-take-le}
 use borrow.Author.Tests.{le-ltb, leb-true, leb-false}
 use Rattle.window.specs.declared.Window.{Window}
 use Rattle.window.specs.Window.{offset_of, rest_of, front_of}
-use Rattle.pipes.specs.Pipes.{enough_of, Filled, is_open, ready_of, FilledIn, Begun, Readied}
-use Rattle.pipes.specs.declared.Seen.{Seen}
-use Rattle.pipes.specs.declared.Room.{Room}
-use Rattle.pipes.specs.declared.State.{State}
-use Rattle.pipes.specs.declared.Ready.{Ready}
+use Rattle.pipes.specs.Pipes.{run, enough_of, Filled, ready_of, FilledIn, Begun}
+use Rattle.pipes.specs.declared.Failed.{Failed}
+use Rattle.pipes.specs.declared.End.{End}
+use Rattle.std.specs.Prelude.{Result, Ok, Err}
 use Rattle.pipes.proofs.Reading.{found}
 
 -- ---- a window that was filled
@@ -32,7 +31,7 @@ front_bytes s from until true e h =
 front_bytes s from until false e h = refl
 
 -- by whether the given window has what decides a record
-module _ (w v : Window) (s t : List ℕ) (h : Filled w s t (Seen.At v)) where
+module _ (w v : Window) (s t : List ℕ) (h : Filled w s t (Ok v)) where
   seen_bytes : (b : Bool) → enough_of w ≡ b → w.until ≤ length s → take (rest_of w.from w.until) (drop v.from t) ≡ take (rest_of w.from w.until) (drop w.from s)
   seen_bytes true e k = let x : v ≡ w = cc (h.enough e).0 in let y : t ≡ s = (h.enough e).1 in rw (x, y)
   seen_bytes false e k =
@@ -53,39 +52,23 @@ module _ (w v : Window) (s t : List ℕ) (h : Filled w s t (Seen.At v)) where
 
 -- ---- a run
 
-pub same_bytes : {w v : Window} {at place : ℕ} {o s t : List ℕ} → Begun w at o s t (Ready.Record v place) → w.until ≤ length s
+pub same_bytes : {w v : Window} {at place : ℕ} {o s t : List ℕ} → Begun w at o s t (Ok (run v place)) → w.until ≤ length s
     → take (rest_of w.from w.until) (drop v.from t) ≡ take (rest_of w.from w.until) (drop w.from s)
 same_bytes {w} {v} {s = s} {t = t} h k = seen_bytes w v s t (found h).filled (enough_of w) refl k
 
-pub same-offset : {w v : Window} {at place : ℕ} {o s t : List ℕ} → Begun w at o s t (Ready.Record v place) → offset_of v.base v.from ≡ offset_of w.base w.from
+pub same-offset : {w v : Window} {at place : ℕ} {o s t : List ℕ} → Begun w at o s t (Ok (run v place)) → offset_of v.base v.from ≡ offset_of w.base w.from
 same-offset {w} {v} {s = s} {t = t} h = seen-offset w v s t (found h).filled (enough_of w) refl
 
-over-of : (at : ℕ) (v : Window) (beyond none : Bool) (next : State) → cond beyond (Ready.Over (State.Failed at)) (cond none (Ready.Over (State.Done at)) (Ready.Record v at)) ≡ Ready.Over next
-    → is_open next ≡ false
-over-of at v true none next e = let x : next ≡ State.Failed at = cc in rw x
-over-of at v false true next e = let x : next ≡ State.Done at = cc in rw x
-over-of at v false false next e = let z : ◌≡◌ {A = ℕ} 0 1 = cc in absurd (omega arith)
-
-over-in : (n : ℕ) (room : Room) (seen : Seen) (next : State) → ready_of n room seen ≡ Ready.Over next → is_open next ≡ false
-over-in n Room.Failed seen next e = let x : next ≡ State.Failed 0 = cc in rw x
-over-in n (Room.At place) Seen.Failed next e = let x : next ≡ State.Failed place = cc in rw x
-over-in n (Room.At place) (Seen.At v) next e = over-of place v (ltb n v.until) (leb v.until v.from) next e
-
-pub over : (state next : State) {o s t : List ℕ} → Readied state o s t (Ready.Over next) → is_open next ≡ false
-over (State.Open w at) next {t = t} h = let b = h.begun refl in over-in (length t) b.room b.seen next (sym b.answer)
-over (State.Done place) next h = let x : next ≡ State.Done place = cc (h.handed refl).0 in rw x
-over (State.Failed place) next h = let x : next ≡ State.Failed place = cc (h.handed refl).0 in rw x
-
 none_of : (at place : ℕ) (v : Window) (beyond none : Bool) → leb v.until v.from ≡ none
-    → Ready.Over (State.Done place) ≡ cond beyond (Ready.Over (State.Failed at)) (cond none (Ready.Over (State.Done at)) (Ready.Record v at)) → v.until ≤ v.from
+    → Err (End.Done place) ≡ cond beyond (Err (End.Failed at)) (cond none (Err (End.Done at)) (Ok (run v at))) → v.until ≤ v.from
 none_of at place v true none f e = let z : ◌≡◌ {A = ℕ} 0 1 = cc in absurd (omega arith)
 none_of at place v false true f e = leb-true v.until v.from f
 none_of at place v false false f e = let z : ◌≡◌ {A = ℕ} 0 1 = cc in absurd (omega arith)
 
-none_in : (room : Room) (seen : Seen) (w : Window) (place : ℕ) (s t : List ℕ) → FilledIn room w s t seen → Ready.Over (State.Done place) ≡ ready_of (length t) room seen → w.until ≤ w.from
-none_in Room.Failed seen w place s t f e = let z : ◌≡◌ {A = ℕ} 0 1 = cc in absurd (omega arith)
-none_in (Room.At p) Seen.Failed w place s t f e = let z : ◌≡◌ {A = ℕ} 0 1 = cc in absurd (omega arith)
-none_in (Room.At p) (Seen.At v) w place s t f e = seen_none w v s t f (enough_of w) refl (none_of p place v (ltb (length t) v.until) (leb v.until v.from) refl e)
+none_in : (room : Result ℕ Failed) (seen : Result Window Failed) (w : Window) (place : ℕ) (s t : List ℕ) → FilledIn room w s t seen → Err (End.Done place) ≡ ready_of (length t) room seen → w.until ≤ w.from
+none_in (Err d) seen w place s t f e = let z : ◌≡◌ {A = ℕ} 0 1 = cc in absurd (omega arith)
+none_in (Ok p) (Err d) w place s t f e = let z : ◌≡◌ {A = ℕ} 0 1 = cc in absurd (omega arith)
+none_in (Ok p) (Ok v) w place s t f e = seen_none w v s t f (enough_of w) refl (none_of p place v (ltb (length t) v.until) (leb v.until v.from) refl e)
 
-pub none_left : {w : Window} {at place : ℕ} {o s t : List ℕ} → Begun w at o s t (Ready.Over (State.Done place)) → w.until ≤ w.from
+pub none_left : {w : Window} {at place : ℕ} {o s t : List ℕ} → Begun w at o s t (Err (End.Done place)) → w.until ≤ w.from
 none_left {w} {place = place} {s = s} {t = t} h = none_in h.room h.seen w place s t h.filled h.answer

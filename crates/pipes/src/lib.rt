@@ -5,9 +5,10 @@
 // are known, that what comes into the buffer is what the reader then has no more, and that what is written is the lines.
 #![tactic(auto)]
 
-ghost use Rattle.std.specs.Prelude.{◌≡◌, true};
+ghost use Rattle.std.specs.Prelude.{◌≡◌};
+ghost use Rattle.std.specs.Result.{is_ok};
 ghost use Rattle.pipes.specs.Bytes.{Gone, TakenBy, Drawn, Gained, Drained, Passed};
-ghost use Rattle.pipes.specs.Pipes.{start_window, enough_of, Kept, Brought, ReadOn, Read, Filled, Written, Roomy, is_open, after_turn, Readied};
+ghost use Rattle.pipes.specs.Pipes.{start_window, enough_of, Kept, Brought, ReadOn, Read, Filled, Written, Roomy, after_turn, Readied};
 
 use std::io::{Read, Write};
 use window::{Turn, Window};
@@ -18,46 +19,24 @@ const RECORD_BYTES: usize = 160;
 // The output has room for any line, of 209 bytes at most, while its place is here or before.
 const NEARLY_FULL: usize = 65_327;
 
-// What a read found: more bytes and their end, the file's end, or an error.
+// A read or a write failed.
 #[derive(Clone, Copy)]
-pub enum Got {
-    Until(usize),
-    End,
-    Failed,
+pub struct Failed;
+
+// A run that goes on: the window on the file, and the place of the next line in the output.
+#[derive(Clone, Copy)]
+pub struct Run {
+    pub window: Window,
+    pub place: usize,
 }
 
-// The window, once the buffer was seen to.
+// Why a run does not go on, and up to which place in the output it left lines.
 #[derive(Clone, Copy)]
-pub enum Seen {
-    At(Window),
-    Failed,
-}
-
-// Where a write left the output's place.
-#[derive(Clone, Copy)]
-pub enum Room {
-    At(usize),
-    Failed,
-}
-
-// Where a run stands.
-#[derive(Clone, Copy)]
-pub enum State {
-    // The window on the file, and the place of the next line in the output.
-    Open(Window, usize),
-    // The file's end, or a line after which nothing is read: lines up to this place in the output.
+pub enum End {
+    // The file's end, or a line after which nothing is read.
     Done(usize),
-    // A read or a write failed, with lines up to this place in the output.
+    // A read or a write failed.
     Failed(usize),
-}
-
-// Whether a record can be answered.
-#[derive(Clone, Copy)]
-pub enum Ready {
-    // The window that it stands in, and the place of its line.
-    Record(Window, usize),
-    // There is none: where the run stands.
-    Over(State),
 }
 
 // ---- input
@@ -74,86 +53,71 @@ pub fn start() -> Window
     }
 }
 
-// One read into the buffer from `at` on.
-fn read_from<R: Read>(stdin: &mut R, input: &mut [u8], at: usize) -> Got
+// One read into the buffer from `at` on: more bytes and their end, or the file's end.
+fn read_from<R: Read>(stdin: &mut R, input: &mut [u8], at: usize) -> Result<Option<usize>, Failed>
     ensures brought { Brought at result }
     ensures gone { Gone (R.remaining stdin.old) (R.remaining stdin.new) at input.new result }
     ensures kept { Kept at input.old input.new }
 {
     if input.len() <= at {
-        return Got::Failed;
+        return Err(Failed);
     }
     match stdin.read(&mut input[at..]) {
-        Err(_) => Got::Failed,
-        Ok(0) => Got::End,
-        Ok(n) => Got::Until(at + n),
+        Err(_) => Err(Failed),
+        Ok(0) => Ok(None),
+        Ok(n) => Ok(Some(at + n)),
     }
 }
 
 // The window with what one read brings.
-fn read_on<R: Read>(stdin: &mut R, input: &mut [u8], w: Window) -> Seen
+fn read_on<R: Read>(stdin: &mut R, input: &mut [u8], w: Window) -> Result<Window, Failed>
     ensures read_on { ReadOn w result }
     ensures taken { TakenBy (R.remaining stdin.old) (R.remaining stdin.new) w input.new result }
     ensures kept { Kept w.until input.old input.new }
 {
-    let got = read_from(stdin, input, w.until);
-    match got {
-        Got::Until(until) => Seen::At(Window {
-            base: w.base,
-            from: w.from,
+    let got = read_from(stdin, input, w.until)?;
+    let seen = match got {
+        Some(until) => Window {
             until,
             ended: false,
-        }),
-        Got::End => Seen::At(Window {
-            base: w.base,
-            from: w.from,
-            until: w.until,
-            ended: true,
-        }),
-        Got::Failed => Seen::Failed,
-    }
+            ..w
+        },
+        None => Window { ended: true, ..w },
+    };
+    Ok(seen)
 }
 
 // Whether the window has what decides a record.
 fn has_enough(w: Window) -> bool
     ensures { result ≡ enough_of w }
 {
-    if w.ended {
-        return true;
-    }
-    RECORD_BYTES <= window::rest_of(w.from, w.until)
+    w.ended || RECORD_BYTES <= window::rest_of(w.from, w.until)
 }
 
 // At least 160 bytes from the buffer's start on, or the file's rest. Each read brings a byte at least.
-fn read_enough<R: Read>(stdin: &mut R, input: &mut [u8], w: Window) -> Seen
+fn read_enough<R: Read>(stdin: &mut R, input: &mut [u8], w: Window) -> Result<Window, Failed>
     requires { w.«from» ≡ 0 }
     ensures read { Read w result }
     ensures taken { TakenBy (R.remaining stdin.old) (R.remaining stdin.new) w input.new result }
     ensures kept { Kept w.until input.old input.new }
 {
     let mut seen = w;
-    let mut i: usize = 0;
-    while i < RECORD_BYTES {
+    for _ in 0..RECORD_BYTES {
         if has_enough(seen) {
-            return Seen::At(seen);
+            return Ok(seen);
         }
-        let read = read_on(stdin, input, seen);
-        let Seen::At(more) = read else {
-            return Seen::Failed;
-        };
-        seen = more;
-        i = i + 1;
+        seen = read_on(stdin, input, seen)?;
     }
-    Seen::At(seen)
+    Ok(seen)
 }
 
 // The window with what decides the next record: as it is, or moved to the buffer's start and read on.
-fn filled<R: Read>(stdin: &mut R, input: &mut [u8], w: Window) -> Seen
+fn filled<R: Read>(stdin: &mut R, input: &mut [u8], w: Window) -> Result<Window, Failed>
     ensures filled { Filled w input.old input.new result }
     ensures drawn { Drawn (R.remaining stdin.old) (R.remaining stdin.new) w input.new result }
 {
     if has_enough(w) {
-        return Seen::At(w);
+        return Ok(w);
     }
     window::to_front(input, w.from, w.until);
     read_enough(stdin, input, window::moved(w))
@@ -162,28 +126,26 @@ fn filled<R: Read>(stdin: &mut R, input: &mut [u8], w: Window) -> Seen
 // ---- output
 
 // The lines up to `place` are written.
-pub fn flushed<W: Write>(stdout: &mut W, out: &[u8], place: usize) -> bool
-    ensures written { Written out.now place result }
-    ensures gained { Gained (W.contents stdout.old) (W.contents stdout.new) out.now place result }
+pub fn flushed<W: Write>(stdout: &mut W, out: &[u8], place: usize) -> Result<(), Failed>
+    ensures written { Written out.now place (is_ok result) }
+    ensures gained { Gained (W.contents stdout.old) (W.contents stdout.new) out.now place (is_ok result) }
 {
     if out.len() < place {
-        return false;
+        return Err(Failed);
     }
-    stdout.write_all(&out[..place]).is_ok()
+    stdout.write_all(&out[..place]).map_err(|_| Failed)
 }
 
 // Where there is room for a line: here, or at the start once what is there is written.
-pub fn with_room<W: Write>(stdout: &mut W, out: &[u8], place: usize) -> Room
+pub fn with_room<W: Write>(stdout: &mut W, out: &[u8], place: usize) -> Result<usize, Failed>
     ensures roomy { Roomy out.now place result }
     ensures drained { Drained (W.contents stdout.old) (W.contents stdout.new) out.now place result }
 {
     if place <= NEARLY_FULL {
-        return Room::At(place);
+        return Ok(place);
     }
-    if flushed(stdout, out, place) {
-        return Room::At(0);
-    }
-    Room::Failed
+    flushed(stdout, out, place)?;
+    Ok(0)
 }
 
 // What failed goes to standard error, where it can. There is nothing to promise: it answers nothing, and writes to nothing
@@ -194,50 +156,36 @@ pub fn complain<W: Write>(stderr: &mut W, what: &[u8]) {
 
 // ---- a run
 
-pub fn is_open(state: State) -> bool
-    ensures { result ≡ is_open state }
-{
-    match state {
-        State::Open(_, _) => true,
-        State::Done(_) => false,
-        State::Failed(_) => false,
-    }
-}
-
 // The next record's bytes are there, and there is room for its line. A state that is not open is handed on.
 pub fn make_ready<R: Read, W: Write>(
     stdin: &mut R,
     stdout: &mut W,
-    state: State,
+    state: Result<Run, End>,
     input: &mut [u8],
     out: &[u8],
-) -> Ready
+) -> Result<Run, End>
     ensures readied { Readied state out.now input.old input.new result }
     ensures passed { Passed (R.remaining stdin.old) (R.remaining stdin.new) (W.contents stdout.old) (W.contents stdout.new)
         state out.now input.new result }
 {
-    let State::Open(given, at) = state else {
-        return Ready::Over(state);
+    let run = state?;
+    let Ok(place) = with_room(stdout, out, run.place) else {
+        return Err(End::Failed(0));
     };
-    let drain = with_room(stdout, out, at);
-    let Room::At(place) = drain else {
-        return Ready::Over(State::Failed(0));
-    };
-    let seen = filled(stdin, input, given);
-    let Seen::At(window) = seen else {
-        return Ready::Over(State::Failed(place));
+    let Ok(window) = filled(stdin, input, run.window) else {
+        return Err(End::Failed(place));
     };
     if input.len() < window.until {
-        return Ready::Over(State::Failed(place));
+        return Err(End::Failed(place));
     }
     if window.until <= window.from {
-        return Ready::Over(State::Done(place));
+        return Err(End::Done(place));
     }
-    Ready::Record(window, place)
+    Ok(Run { window, place })
 }
 
 // Where a run stands after a turn.
-pub fn after(answer: Turn, w: Window, place: usize) -> State
+pub fn after(answer: Turn, w: Window, place: usize) -> Result<Run, End>
     ensures { result ≡ after_turn answer w place }
 {
     match answer {
@@ -245,16 +193,14 @@ pub fn after(answer: Turn, w: Window, place: usize) -> State
             next,
             place: following,
         } => {
-            let window = Window {
-                base: w.base,
-                from: next,
-                until: w.until,
-                ended: w.ended,
-            };
-            State::Open(window, following)
+            let window = Window { from: next, ..w };
+            Ok(Run {
+                window,
+                place: following,
+            })
         }
-        Turn::Stopped(following) => State::Done(following),
-        Turn::NoRoom => State::Failed(place),
-        Turn::AllRead => State::Done(place),
+        Turn::Stopped(following) => Err(End::Done(following)),
+        Turn::NoRoom => Err(End::Failed(place)),
+        Turn::AllRead => Err(End::Done(place)),
     }
 }

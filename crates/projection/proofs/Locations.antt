@@ -2,6 +2,7 @@
 -- Shown at each way out, where the numbers are literals. Assumes nothing.
 use mathlib.Core.Bool.{◌&&◌}
 use Prim.Native.Nat.{ℕ, ◌≤◌}
+use Rattle.std.proofs.Common.{Option, Some, None, Result, Ok, Err}
 use native.Mathlib.Omega.{arith}
 use lib.Ieee as Ieee
 use lib.Ieee.{Float, Format, lt, le, eq, ne}
@@ -10,20 +11,19 @@ use Rattle.vector.specs.Vector.{zero_f, sub_v, dot_v, cross_v, length_squared_v,
 use Rattle.projection.specs.declared.segment.Segment.{Segment}
 use Rattle.projection.specs.declared.segment.SegmentPointLocation.{SegmentPointLocation}
 use Rattle.projection.specs.declared.segment.SegmentPointLocation.TheVariants as OfSegment
-use Rattle.projection.specs.declared.segment.SegmentProjection.{SegmentProjection}
-use Rattle.projection.specs.declared.segment.SegmentProjection.TheVariants as SegmentAnswer
 use Rattle.projection.specs.Segment as Seg
+use Rattle.projection.specs.Segment.{SegmentProjection}
 use Rattle.projection.specs.declared.triangle.Triangle.{Triangle}
 use Rattle.projection.specs.declared.triangle.TrianglePointLocation.{TrianglePointLocation}
 use Rattle.projection.specs.declared.triangle.TrianglePointLocation.TheVariants as OfTriangle
-use Rattle.projection.specs.declared.triangle.TriangleProjection.{TriangleProjection}
 use Rattle.projection.specs.declared.triangle.Differences.{Differences}
 use Rattle.projection.specs.declared.triangle.Dots.{Dots}
-use Rattle.projection.specs.declared.triangle.MaybeProjection.{MaybeProjection}
-use Rattle.projection.specs.declared.triangle.MaybeProjection.TheVariants as Found
 use Rattle.projection.specs.declared.triangle.ProjectionInfo.{ProjectionInfo}
 use Rattle.projection.specs.declared.triangle.ProjectionInfo.TheVariants as Info
 use Rattle.projection.specs.Triangle as Tri
+use Rattle.projection.specs.Triangle.{TriangleProjection}
+use Rattle.refusal.specs.declared.WouldPanic.{WouldPanic}
+use Rattle.refusal.specs.Refusal.{would_panic}
 use Rattle.projection.proofs.Choice.{either}
 
 -- ---- the locations that there are, by their numbers
@@ -42,9 +42,9 @@ pub data TriangleHas : TrianglePointLocation → Type 0 where
 -- ---- the segment
 
 -- a projection that is refused gives no location
-pub data SegmentFits : SegmentProjection → Type 0 where
-  at : (p : Vec3) (l : SegmentPointLocation) → SegmentHas l → SegmentFits (SegmentAnswer.At p l)
-  refused : SegmentFits SegmentAnswer.Refused
+pub data SegmentFits : Result SegmentProjection WouldPanic → Type 0 where
+  at : (p : SegmentProjection) → SegmentHas p.location → SegmentFits (Ok p)
+  refused : SegmentFits (Err would_panic)
 
 pub segment-fits : (f : Format) (s : Segment) (pt : Vec3) → SegmentFits (Seg.project_segment f s pt)
 unfolding Seg.project_segment Seg.on_edge
@@ -52,15 +52,15 @@ segment-fits f s pt =
     let ab = sub_v f s.b s.a in
     let t = dot_v f ab (sub_v f pt s.a) in
     let n = length_squared_v f ab in
-    either SegmentFits (le t zero_f) _ _ (SegmentFits.at _ _ (SegmentHas.vertex 0 (omega arith)))
-    (either SegmentFits (le n t) _ _ (SegmentFits.at _ _ (SegmentHas.vertex 1 (omega arith)))
-    (either SegmentFits (eq n zero_f) _ _ SegmentFits.refused (SegmentFits.at _ _ (SegmentHas.edge _ _))))
+    either SegmentFits (le t zero_f) _ _ (SegmentFits.at _ (SegmentHas.vertex 0 (omega arith)))
+    (either SegmentFits (le n t) _ _ (SegmentFits.at _ (SegmentHas.vertex 1 (omega arith)))
+    (either SegmentFits (eq n zero_f) _ _ SegmentFits.refused (SegmentFits.at _ (SegmentHas.edge _ _))))
 
 -- ---- the triangle
 
-data TriFits : MaybeProjection → Type 0 where
-  some : (p : TriangleProjection) → TriangleHas p.location → TriFits (Found.Some p)
-  none : TriFits Found.None
+data TriFits : Option TriangleProjection → Type 0 where
+  some : (p : TriangleProjection) → TriangleHas p.location → TriFits (Some p)
+  none : TriFits None
 
 tri-region : (t : Triangle) (k : Dots) → TriFits (Tri.vertex_region t k)
 unfolding Tri.vertex_region Tri.on_vertex
@@ -104,7 +104,7 @@ tri-located f t pt v k _ InfoFits.on-ac = TriangleHas.edge 2 _ _ (omega arith)
 tri-located f t pt v k _ InfoFits.on-bc = TriangleHas.edge 1 _ _ (omega arith)
 tri-located f t pt v k _ (InfoFits.face i x y z h) = tri-face f pt t.a v.ab v.ac i x y z h
 
-tri-else : (m : MaybeProjection) (p : TriangleProjection) → TriFits m → TriangleHas p.location → TriangleHas (Tri.or_else m p).location
+tri-else : (m : Option TriangleProjection) (p : TriangleProjection) → TriFits m → TriangleHas p.location → TriangleHas (Tri.or_else m p).location
 unfolding Tri.or_else
 tri-else _ p (TriFits.some q h) k = h
 tri-else _ p TriFits.none k = k

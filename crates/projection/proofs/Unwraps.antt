@@ -2,29 +2,27 @@
 -- a triangle answers none but those that a triangle has, in any format. Shown at each way out of the projection: a corner's region, an edge's, and the face. Assumes nothing.
 use mathlib.Core.Bool.{cond, ◌&&◌}
 use Prim.Native.Nat.{ℕ}
+use Rattle.std.proofs.Common.{Option, Some, None, Result, Ok, Err}
 use lib.Ieee.{Float, Format, le, ne}
 use Rattle.vector.specs.declared.vec3.Vec3.{Vec3}
 use Rattle.vector.specs.Vector.{zero_f, one_f, add_v, scale_v, ◌⊕◌, ◌⊖◌, ◌⊗◌, ◌⊘◌}
 use Rattle.projection.specs.declared.triangle.Triangle.{Triangle}
 use Rattle.projection.specs.declared.triangle.TrianglePointLocation.{TrianglePointLocation}
 use Rattle.projection.specs.declared.triangle.TrianglePointLocation.TheVariants.{OnVertex, OnEdge, OnFace, OnSolid}
-use Rattle.projection.specs.declared.triangle.TriangleProjection.{TriangleProjection}
 use Rattle.projection.specs.declared.triangle.BarycentricCoordinates.{BarycentricCoordinates}
-use Rattle.projection.specs.declared.triangle.BarycentricCoordinates.TheVariants as Weights
 use Rattle.projection.specs.declared.triangle.Differences.{Differences}
 use Rattle.projection.specs.declared.triangle.Dots.{Dots}
-use Rattle.projection.specs.declared.triangle.MaybeProjection.{MaybeProjection}
-use Rattle.projection.specs.declared.triangle.MaybeProjection.TheVariants.{Some, None}
 use Rattle.projection.specs.declared.triangle.ProjectionInfo.{ProjectionInfo}
 use Rattle.projection.specs.declared.triangle.ProjectionInfo.TheVariants as Info
-use Rattle.projection.specs.Triangle.{on_vertex, vertex_region, or_else, on_edge, on_face, located, differences, dots, check_edges, project_triangle, vertex_weights, edge_weights, barycentric_coordinates}
+use Rattle.projection.specs.Triangle.{TriangleProjection, on_vertex, vertex_region, or_else, on_edge, on_face, located, differences, dots, check_edges, project_triangle, vertex_weights, edge_weights, barycentric_coordinates}
 use Rattle.projection.proofs.Choice.{either}
+use Rattle.refusal.specs.declared.WouldPanic.{WouldPanic}
 
 -- what `unwrap` has to find
-abbrev pub HasWeights : BarycentricCoordinates → Type 0
-HasWeights (Weights.Some u v w) = Unit {0}
-HasWeights Weights.None = ⊥
-HasWeights Weights.Refused = ⊥
+abbrev pub HasWeights : Result (Option BarycentricCoordinates) WouldPanic → Type 0
+HasWeights (Ok (Some w)) = Unit {0}
+HasWeights (Ok None) = ⊥
+HasWeights (Err e) = ⊥
 
 -- a solid has no weights, and there the Rust does not ask for them
 abbrev pub Unwraps : TrianglePointLocation → Type 0
@@ -36,11 +34,11 @@ Unwraps OnSolid = Unit {0}
 abbrev At : TriangleProjection → Type 0
 At p = Unwraps p.location
 
-abbrev MaybeAt : MaybeProjection → Type 0
+abbrev MaybeAt : Option TriangleProjection → Type 0
 MaybeAt (Some p) = At p
 MaybeAt None = Unit {0}
 
-or-else : (m : MaybeProjection) (p : TriangleProjection) → MaybeAt m → At p → At (or_else m p)
+or-else : (m : Option TriangleProjection) (p : TriangleProjection) → MaybeAt m → At p → At (or_else m p)
 unfolding or_else
 or-else (Some q) p h k = h
 or-else None p h k = k
@@ -51,9 +49,9 @@ at-corner t k =
     let in-a = le k.ab_ap zero_f && le k.ac_ap zero_f in
     let in_b = le zero_f k.ab_bp && le k.ac_bp k.ab_bp in
     let in_c = le zero_f k.ac_cp && le k.ab_cp k.ac_cp in
-    let from-c = cond in_c (on_vertex 2 t.c) None in
-    let from-b = cond in_b (on_vertex 1 t.b) from-c in
-    either MaybeAt in-a (on_vertex 0 t.a) from-b tt (either MaybeAt in_b (on_vertex 1 t.b) from-c tt (either MaybeAt in_c (on_vertex 2 t.c) None tt tt))
+    let from-c = cond in_c (Some (on_vertex 2 t.c)) None in
+    let from-b = cond in_b (Some (on_vertex 1 t.b)) from-c in
+    either MaybeAt in-a (Some (on_vertex 0 t.a)) from-b tt (either MaybeAt in_b (Some (on_vertex 1 t.b)) from-c tt (either MaybeAt in_c (Some (on_vertex 2 t.c)) None tt tt))
 
 on-face : (f : Format) (pt a ab ac : Vec3) (side : ℕ) (va vb vc : Float) → At (on_face f pt a ab ac side va vb vc)
 unfolding on_face barycentric_coordinates

@@ -1,7 +1,7 @@
 -- The projection of a point on a triangle in space, taken as solid, of any format f: `point_triangle.rs`, with the tests in its order, one rounding each; and of
 -- `triangle.rs` `is_affinely_dependent` and `barycentric_coordinates`. Definitions only.
 -- Those texts are not published with the crate's: docs/DECISIONS.md says what stands in for them.
-use Rattle.std.specs.Prelude.{ℕ, Bool, true, false, cond, ◌&&◌, eqb, Float}
+use Rattle.std.specs.Prelude.{ℕ, Bool, true, false, cond, ◌&&◌, eqb, Float, Option, Some, None, Result, Ok, Err}
 use Rattle.std.specs.Float.Ieee as Ieee
 use Rattle.std.specs.Float.{Format}
 use Rattle.std.specs.Float.Ieee.{lt, le, ne}
@@ -13,26 +13,30 @@ use Rattle.projection.specs.Signs.{at_least_zero, at_most_zero}
 use Rattle.projection.specs.declared.triangle.Triangle.{Triangle}
 use Rattle.projection.specs.declared.triangle.TrianglePointLocation.{TrianglePointLocation}
 use Rattle.projection.specs.declared.triangle.TrianglePointLocation.TheVariants.{OnVertex, OnEdge, OnFace, OnSolid}
-use Rattle.projection.specs.declared.triangle.TriangleProjection.{TriangleProjection}
+use Rattle.projection.specs.declared.point_query.Projection.{Projection}
 use Rattle.projection.specs.declared.triangle.BarycentricCoordinates.{BarycentricCoordinates}
 use Rattle.projection.specs.declared.triangle.Differences.{Differences}
 use Rattle.projection.specs.declared.triangle.Dots.{Dots}
-use Rattle.projection.specs.declared.triangle.MaybeProjection.{MaybeProjection}
-use Rattle.projection.specs.declared.triangle.MaybeProjection.TheVariants.{Some, None}
 use Rattle.projection.specs.declared.triangle.ProjectionInfo.{ProjectionInfo}
+use Rattle.refusal.specs.declared.WouldPanic.{WouldPanic}
+use Rattle.refusal.specs.Refusal.{would_panic, number_or_panic}
+
+-- a point of a triangle, and where on it the point lies
+abbrev pub TriangleProjection : Type 0
+TriangleProjection = Projection TrianglePointLocation
 
 -- ---- the Voronoi regions of the corners
-unfoldable pub on_vertex : ℕ → Vec3 → MaybeProjection
-on_vertex i corner = Some (record { point = corner; location = OnVertex i })
+unfoldable pub on_vertex : ℕ → Vec3 → TriangleProjection
+on_vertex i corner = record { point = corner; location = OnVertex i }
 
-unfoldable pub vertex_region : Triangle → Dots → MaybeProjection
+unfoldable pub vertex_region : Triangle → Dots → Option TriangleProjection
 vertex_region t k =
-    cond (at_most_zero k.ab_ap && at_most_zero k.ac_ap) (on_vertex 0 t.a)
-    (cond (at_least_zero k.ab_bp && le k.ac_bp k.ab_bp) (on_vertex 1 t.b)
-    (cond (at_least_zero k.ac_cp && le k.ab_cp k.ac_cp) (on_vertex 2 t.c) None))
+    cond (at_most_zero k.ab_ap && at_most_zero k.ac_ap) (Some (on_vertex 0 t.a))
+    (cond (at_least_zero k.ab_bp && le k.ac_bp k.ab_bp) (Some (on_vertex 1 t.b))
+    (cond (at_least_zero k.ac_cp && le k.ab_cp k.ac_cp) (Some (on_vertex 2 t.c)) None))
 
 -- what was found, or else the other
-unfoldable pub or_else : MaybeProjection → TriangleProjection → TriangleProjection
+unfoldable pub or_else : Option TriangleProjection → TriangleProjection → TriangleProjection
 or_else (Some found) other = found
 or_else None other = other
 
@@ -113,35 +117,36 @@ module _ (f : Format) where
       relative_eq f q zero_f (◌⊗◌ f e e) (epsilon f)
 
 -- ---- `barycentric_coordinates`. It refuses a corner or an edge that no triangle has, where the Rust panics.
-unfoldable pub vertex_weights : ℕ → BarycentricCoordinates
+abbrev pub weights : Float → Float → Float → BarycentricCoordinates
+weights u v w = record { u = u; v = v; w = w }
+
+unfoldable pub vertex_weights : ℕ → Result (Option BarycentricCoordinates) WouldPanic
 vertex_weights i =
-    cond (eqb i 0) (BarycentricCoordinates.Some one_f zero_f zero_f)
-    (cond (eqb i 1) (BarycentricCoordinates.Some zero_f one_f zero_f)
-    (cond (eqb i 2) (BarycentricCoordinates.Some zero_f zero_f one_f) BarycentricCoordinates.Refused))
+    cond (eqb i 0) (Ok (Some (weights one_f zero_f zero_f)))
+    (cond (eqb i 1) (Ok (Some (weights zero_f one_f zero_f)))
+    (cond (eqb i 2) (Ok (Some (weights zero_f zero_f one_f))) (Err would_panic)))
 
-unfoldable pub edge_weights : ℕ → Float → Float → BarycentricCoordinates
+unfoldable pub edge_weights : ℕ → Float → Float → Result (Option BarycentricCoordinates) WouldPanic
 edge_weights i u v =
-    cond (eqb i 0) (BarycentricCoordinates.Some u v zero_f)
-    (cond (eqb i 1) (BarycentricCoordinates.Some zero_f u v)
-    (cond (eqb i 2) (BarycentricCoordinates.Some u zero_f v) BarycentricCoordinates.Refused))
+    cond (eqb i 0) (Ok (Some (weights u v zero_f)))
+    (cond (eqb i 1) (Ok (Some (weights zero_f u v)))
+    (cond (eqb i 2) (Ok (Some (weights u zero_f v))) (Err would_panic)))
 
-unfoldable pub barycentric_coordinates : TrianglePointLocation → BarycentricCoordinates
+unfoldable pub barycentric_coordinates : TrianglePointLocation → Result (Option BarycentricCoordinates) WouldPanic
 barycentric_coordinates (OnVertex i) = vertex_weights i
 barycentric_coordinates (OnEdge i u v) = edge_weights i u v
-barycentric_coordinates (OnFace i u v w) = BarycentricCoordinates.Some u v w
-barycentric_coordinates OnSolid = BarycentricCoordinates.None
+barycentric_coordinates (OnFace i u v w) = Ok (Some (weights u v w))
+barycentric_coordinates OnSolid = Ok None
 
 -- ---- document 01's number of an answer, 0 or refusal 2, and its values: whether there are weights, for the Rust's `None` has none, and the weights, zeros where there are none
-unfoldable pub barycentric_number : BarycentricCoordinates → ℕ
-barycentric_number (BarycentricCoordinates.Some u v w) = 0
-barycentric_number BarycentricCoordinates.None = 0
-barycentric_number BarycentricCoordinates.Refused = 2
+unfoldable pub barycentric_number : Result (Option BarycentricCoordinates) WouldPanic → ℕ
+barycentric_number r = number_or_panic r
 
 pub record WeightValues : Type 0 where
   pub some : Bool
   pub weights : Vec3
 
-unfoldable pub barycentric_values : BarycentricCoordinates → WeightValues
-barycentric_values (BarycentricCoordinates.Some u v w) = record { some = true; weights = vec3 u v w }
-barycentric_values BarycentricCoordinates.None = record { some = false; weights = zero_v }
-barycentric_values BarycentricCoordinates.Refused = record { some = false; weights = zero_v }
+unfoldable pub barycentric_values : Result (Option BarycentricCoordinates) WouldPanic → WeightValues
+barycentric_values (Ok (Some b)) = record { some = true; weights = vec3 b.u b.v b.w }
+barycentric_values (Ok None) = record { some = false; weights = zero_v }
+barycentric_values (Err e) = record { some = false; weights = zero_v }

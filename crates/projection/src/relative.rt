@@ -1,7 +1,9 @@
 // `relative_eq` of the Rust's crate `approx`, for `f32`.
+#![tactic(auto, using(crate::proofs::Infinite::infinite), unfolding(crate::specs::Relative::relative_eq, crate::specs::Relative::larger_size))]
+
 ghost use Rattle.std.specs.Prelude.{◌≡◌};
 ghost use Rattle.std.specs.Float.{binary32};
-ghost use Rattle.projection.specs.Relative.{is_infinite, larger_size, relative_eq};
+ghost use Rattle.projection.specs.Relative.{larger_size, relative_eq};
 
 // Whether x and y are equal, or differ by at most `epsilon`, or by at most `max_relative` of the one
 // that is larger in size.
@@ -11,7 +13,7 @@ pub fn relative_eq(x: f32, y: f32, epsilon: f32, max_relative: f32) -> bool
     if x == y {
         return true;
     }
-    if is_infinite(x) | is_infinite(y) {
+    if x.is_infinite() || y.is_infinite() {
         return false;
     }
     let abs_diff = number::abs(x - y);
@@ -21,14 +23,7 @@ pub fn relative_eq(x: f32, y: f32, epsilon: f32, max_relative: f32) -> bool
     abs_diff <= larger_size(number::abs(x), number::abs(y)) * max_relative
 }
 
-fn is_infinite(x: f32) -> bool
-    ensures { result ≡ is_infinite x }
-{
-    let infinity = number::infinity();
-    (x == infinity) | (x == -infinity)
-}
-
-// The larger of two sizes, and the first where either is a NaN.
+// The larger of two sizes, and the first where either is a NaN: so not `f32::max`, which gives the other.
 fn larger_size(abs_x: f32, abs_y: f32) -> f32
     ensures { result ≡ larger_size abs_x abs_y }
 {

@@ -1,9 +1,13 @@
 // The projection on a segment (parry3d's `point_segment.rs`).
+#![tactic(auto, unfolding(crate::specs::Segment::project_segment, crate::specs::Segment::on_edge))]
+
 ghost use Rattle.std.specs.Prelude.{◌≡◌};
 ghost use Rattle.std.specs.Float.{binary32};
 ghost use Rattle.number.specs.Told.{Told};
-ghost use Rattle.projection.specs.Segment.{on_edge, project_segment, segment_number, segment_values};
+ghost use Rattle.projection.specs.Segment.{on_vertex, on_edge, project_segment, segment_number, segment_values};
 
+use crate::point_query::Projection;
+use refusal::WouldPanic;
 use vector::Vec3;
 
 #[repr(C)]
@@ -20,34 +24,41 @@ pub enum SegmentPointLocation {
     OnEdge(f32, f32),
 }
 
-// The projection and its location, or a refusal where the Rust asserts.
-#[derive(Clone, Copy)]
-pub enum SegmentProjection {
-    At(Vec3, SegmentPointLocation),
-    Refused,
-}
+pub type SegmentProjection = Projection<SegmentPointLocation>;
 
 impl Segment {
-    pub fn project_local_point_and_get_location(self, pt: Vec3) -> SegmentProjection
+    // Refused where the Rust asserts.
+    pub fn project_local_point_and_get_location(
+        self,
+        pt: Vec3,
+    ) -> Result<SegmentProjection, WouldPanic>
         ensures answer { result ≡ project_segment binary32 self pt }
         ensures told { Told segment_number segment_values result (project_segment binary32 self pt) }
     {
-        let ab = self.b.sub(self.a);
-        let ap = pt.sub(self.a);
+        let ab = self.b - self.a;
+        let ap = pt - self.a;
         let t = ab.dot(ap);
         let n = ab.length_squared();
         if t <= 0.0 {
-            let a = self.a;
-            return SegmentProjection::At(a, SegmentPointLocation::OnVertex(0));
+            return Ok(on_vertex(0, self.a));
         }
         if t >= n {
-            let b = self.b;
-            return SegmentProjection::At(b, SegmentPointLocation::OnVertex(1));
+            return Ok(on_vertex(1, self.b));
         }
         if n == 0.0 {
-            return SegmentProjection::Refused;
+            return Err(WouldPanic);
         }
-        on_edge(self.a, ab, t / n)
+        Ok(on_edge(self.a, ab, t / n))
+    }
+}
+
+// Each shape has its own `on_vertex` and `on_edge`, which name the case of its own type: a trait of two constructors would be longer.
+fn on_vertex(i: u32, corner: Vec3) -> SegmentProjection
+    ensures { result ≡ on_vertex i corner }
+{
+    Projection {
+        point: corner,
+        location: SegmentPointLocation::OnVertex(i),
     }
 }
 
@@ -55,6 +66,8 @@ impl Segment {
 fn on_edge(a: Vec3, ab: Vec3, u: f32) -> SegmentProjection
     ensures { result ≡ on_edge binary32 a ab u }
 {
-    let point = a.add(ab.scale(u));
-    SegmentProjection::At(point, SegmentPointLocation::OnEdge(1.0 - u, u))
+    Projection {
+        point: a + ab * u,
+        location: SegmentPointLocation::OnEdge(1.0 - u, u),
+    }
 }

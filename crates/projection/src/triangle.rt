@@ -1,13 +1,17 @@
 // The projection on a triangle in space (parry3d's `point_triangle.rs`), the weights of a location,
 // and whether a triangle's corners lie on a line (`triangle.rs`).
+#![tactic(auto, unfolding(crate::specs::Triangle::project_triangle, crate::specs::Triangle::located, crate::specs::Triangle::or_else, crate::specs::Triangle::differences, crate::specs::Triangle::vertex_region, crate::specs::Triangle::dots, crate::specs::Triangle::check_edges, crate::specs::Triangle::on_vertex, crate::specs::Triangle::on_edge, crate::specs::Triangle::face_side, crate::specs::Triangle::on_face, crate::specs::Triangle::barycentric_coordinates, crate::specs::Triangle::vertex_weights, crate::specs::Triangle::edge_weights))]
+
 ghost use Rattle.std.specs.Prelude.{◌≡◌};
 ghost use Rattle.std.specs.Float.{binary32};
 ghost use Rattle.number.specs.Told.{Told};
 ghost use Rattle.projection.specs.Triangle.{project_triangle, is_affinely_dependent, barycentric_coordinates};
 ghost use Rattle.projection.specs.Triangle.{differences, dots, on_vertex, vertex_region, check_edges, face_side, on_edge, on_face};
-ghost use Rattle.projection.specs.Triangle.{vertex_weights, edge_weights, barycentric_number, barycentric_values};
+ghost use Rattle.projection.specs.Triangle.{weights, vertex_weights, edge_weights, barycentric_number, barycentric_values};
 
+use crate::point_query::Projection;
 use crate::relative::relative_eq;
+use refusal::WouldPanic;
 use vector::Vec3;
 
 #[repr(C)]
@@ -28,18 +32,14 @@ pub enum TrianglePointLocation {
     OnSolid,
 }
 
-#[derive(Clone, Copy)]
-pub struct TriangleProjection {
-    pub point: Vec3,
-    pub location: TrianglePointLocation,
-}
+pub type TriangleProjection = Projection<TrianglePointLocation>;
 
-// The weights of the three corners; none for a solid; or a refusal at a location that no triangle has.
+// The weights of the three corners.
 #[derive(Clone, Copy)]
-pub enum BarycentricCoordinates {
-    Some(f32, f32, f32),
-    None,
-    Refused,
+pub struct BarycentricCoordinates {
+    pub u: f32,
+    pub v: f32,
+    pub w: f32,
 }
 
 // The edges, and the way to `pt` from each corner.
@@ -63,13 +63,6 @@ pub struct Dots {
     ac_cp: f32,
 }
 
-// What a corner's region gives, if one holds the point.
-#[derive(Clone, Copy)]
-pub enum MaybeProjection {
-    Some(TriangleProjection),
-    None,
-}
-
 // The edge whose region holds the point; or the face's side, and its weights before the division.
 #[derive(Clone, Copy)]
 pub enum ProjectionInfo {
@@ -85,12 +78,10 @@ impl Triangle {
     {
         let v = self.differences(pt);
         let k = v.dots();
-        let at = self.vertex_region(k);
-        if let MaybeProjection::Some(found) = at {
+        if let Some(found) = self.vertex_region(k) {
             return found;
         }
-        let info = v.check_edges(k);
-        match info {
+        match v.check_edges(k) {
             ProjectionInfo::OnAB => on_edge(0, self.a, v.ab, k.ab_ap / v.ab.length_squared()),
             ProjectionInfo::OnAC => on_edge(2, self.a, v.ac, k.ac_ap / v.ac.length_squared()),
             ProjectionInfo::OnBC => on_edge(
@@ -111,8 +102,8 @@ impl Triangle {
     {
         let default_epsilon = number::epsilon();
         let e = default_epsilon * 100.0;
-        let ab = self.b.sub(self.a);
-        let ac = self.c.sub(self.a);
+        let ab = self.b - self.a;
+        let ac = self.c - self.a;
         let q = ab.cross(ac).length_squared();
         relative_eq(q, 0.0, e * e, default_epsilon)
     }
@@ -121,29 +112,29 @@ impl Triangle {
         ensures { result ≡ differences binary32 self pt }
     {
         Differences {
-            ab: self.b.sub(self.a),
-            ac: self.c.sub(self.a),
-            bc: self.c.sub(self.b),
-            ap: pt.sub(self.a),
-            bp: pt.sub(self.b),
-            cp: pt.sub(self.c),
+            ab: self.b - self.a,
+            ac: self.c - self.a,
+            bc: self.c - self.b,
+            ap: pt - self.a,
+            bp: pt - self.b,
+            cp: pt - self.c,
         }
     }
 
-    // The Voronoi regions of the corners.
-    fn vertex_region(self, k: Dots) -> MaybeProjection
+    // The Voronoi regions of the corners: the corner whose region holds the point.
+    fn vertex_region(self, k: Dots) -> Option<TriangleProjection>
         ensures { result ≡ vertex_region self k }
     {
-        if (k.ab_ap <= 0.0) & (k.ac_ap <= 0.0) {
-            return on_vertex(0, self.a);
+        if k.ab_ap <= 0.0 && k.ac_ap <= 0.0 {
+            return Some(on_vertex(0, self.a));
         }
-        if (k.ab_bp >= 0.0) & (k.ac_bp <= k.ab_bp) {
-            return on_vertex(1, self.b);
+        if k.ab_bp >= 0.0 && k.ac_bp <= k.ab_bp {
+            return Some(on_vertex(1, self.b));
         }
-        if (k.ac_cp >= 0.0) & (k.ab_cp <= k.ac_cp) {
-            return on_vertex(2, self.c);
+        if k.ac_cp >= 0.0 && k.ab_cp <= k.ac_cp {
+            return Some(on_vertex(2, self.c));
         }
-        MaybeProjection::None
+        None
     }
 }
 
@@ -167,37 +158,36 @@ impl Differences {
     {
         let n = self.ab.cross(self.ac);
         let vc = n.dot(self.ab.cross(self.ap));
-        if (vc < 0.0) & (k.ab_ap >= 0.0) & (k.ab_bp <= 0.0) {
+        if vc < 0.0 && k.ab_ap >= 0.0 && k.ab_bp <= 0.0 {
             return ProjectionInfo::OnAB;
         }
         let vb = -n.dot(self.ac.cross(self.cp));
-        if (vb < 0.0) & (k.ac_ap >= 0.0) & (k.ac_cp <= 0.0) {
+        if vb < 0.0 && k.ac_ap >= 0.0 && k.ac_cp <= 0.0 {
             return ProjectionInfo::OnAC;
         }
         let va = n.dot(self.bc.cross(self.bp));
-        if (va < 0.0) & (k.ac_bp - k.ab_bp >= 0.0) & (k.ab_cp - k.ac_cp >= 0.0) {
+        if va < 0.0 && k.ac_bp - k.ab_bp >= 0.0 && k.ab_cp - k.ac_cp >= 0.0 {
             return ProjectionInfo::OnBC;
         }
         ProjectionInfo::OnFace(face_side(n.dot(self.ap)), va, vb, vc)
     }
 }
 
-fn on_vertex(i: u32, corner: Vec3) -> MaybeProjection
+fn on_vertex(i: u32, corner: Vec3) -> TriangleProjection
     ensures { result ≡ on_vertex i corner }
 {
-    MaybeProjection::Some(TriangleProjection {
+    Projection {
         point: corner,
         location: TrianglePointLocation::OnVertex(i),
-    })
+    }
 }
 
 // The point a + ab * v of the edge i.
 fn on_edge(i: u32, a: Vec3, ab: Vec3, v: f32) -> TriangleProjection
     ensures { result ≡ on_edge binary32 i a ab v }
 {
-    let point = a.add(ab.scale(v));
-    TriangleProjection {
-        point,
+    Projection {
+        point: a + ab * v,
         location: TrianglePointLocation::OnEdge(i, 1.0 - v, v),
     }
 }
@@ -226,60 +216,58 @@ fn on_face(
         let denom = 1.0 / sum;
         let v = vb * denom;
         let w = vc * denom;
-        let point = a.add(ab.scale(v)).add(ac.scale(w));
-        return TriangleProjection {
-            point,
+        return Projection {
+            point: a + ab * v + ac * w,
             location: TrianglePointLocation::OnFace(side, 1.0 - v - w, v, w),
         };
     }
-    TriangleProjection {
+    Projection {
         point: pt,
         location: TrianglePointLocation::OnSolid,
     }
 }
 
 impl TrianglePointLocation {
-    pub fn barycentric_coordinates(self) -> BarycentricCoordinates
+    // None for a solid; refused at a location that no triangle has, where the Rust panics.
+    pub fn barycentric_coordinates(self) -> Result<Option<BarycentricCoordinates>, WouldPanic>
         ensures answer { result ≡ barycentric_coordinates self }
         ensures told { Told barycentric_number barycentric_values result (barycentric_coordinates self) }
     {
         match self {
             TrianglePointLocation::OnVertex(i) => vertex_weights(i),
             TrianglePointLocation::OnEdge(i, u, v) => edge_weights(i, u, v),
-            TrianglePointLocation::OnFace(_, u, v, w) => BarycentricCoordinates::Some(u, v, w),
-            TrianglePointLocation::OnSolid => BarycentricCoordinates::None,
+            TrianglePointLocation::OnFace(_, u, v, w) => Ok(Some(weights(u, v, w))),
+            TrianglePointLocation::OnSolid => Ok(None),
         }
     }
 }
 
 // 1 at the corner i
-fn vertex_weights(i: u32) -> BarycentricCoordinates
+fn vertex_weights(i: u32) -> Result<Option<BarycentricCoordinates>, WouldPanic>
     ensures { result ≡ vertex_weights i }
 {
-    if i == 0 {
-        return BarycentricCoordinates::Some(1.0, 0.0, 0.0);
+    match i {
+        0 => Ok(Some(weights(1.0, 0.0, 0.0))),
+        1 => Ok(Some(weights(0.0, 1.0, 0.0))),
+        2 => Ok(Some(weights(0.0, 0.0, 1.0))),
+        _ => Err(WouldPanic),
     }
-    if i == 1 {
-        return BarycentricCoordinates::Some(0.0, 1.0, 0.0);
-    }
-    if i == 2 {
-        return BarycentricCoordinates::Some(0.0, 0.0, 1.0);
-    }
-    BarycentricCoordinates::Refused
 }
 
 // u and v at the ends of the edge i
-fn edge_weights(i: u32, u: f32, v: f32) -> BarycentricCoordinates
+fn edge_weights(i: u32, u: f32, v: f32) -> Result<Option<BarycentricCoordinates>, WouldPanic>
     ensures { result ≡ edge_weights i u v }
 {
-    if i == 0 {
-        return BarycentricCoordinates::Some(u, v, 0.0);
+    match i {
+        0 => Ok(Some(weights(u, v, 0.0))),
+        1 => Ok(Some(weights(0.0, u, v))),
+        2 => Ok(Some(weights(u, 0.0, v))),
+        _ => Err(WouldPanic),
     }
-    if i == 1 {
-        return BarycentricCoordinates::Some(0.0, u, v);
-    }
-    if i == 2 {
-        return BarycentricCoordinates::Some(u, 0.0, v);
-    }
-    BarycentricCoordinates::Refused
+}
+
+fn weights(u: f32, v: f32, w: f32) -> BarycentricCoordinates
+    ensures { result ≡ weights u v w }
+{
+    BarycentricCoordinates { u, v, w }
 }

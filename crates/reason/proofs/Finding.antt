@@ -18,8 +18,8 @@ use Rattle.epa.specs.declared.types.Answer.{Answer}
 use Rattle.epa.specs.Final.{Final, final, answered, penetration}
 use Rattle.channel.specs.Channel.{start_of, distance}
 use Rattle.reason.specs.declared.reasons.Reason.{Reason}
-use Rattle.reason.specs.declared.words.MaybeReason.{MaybeReason}
-use Rattle.reason.specs.declared.words.MaybeReason.TheVariants.{Some, None}
+use Rattle.std.specs.Prelude.{Option, Some, None, Result, Ok}
+use Rattle.refusal.specs.declared.WouldPanic.{WouldPanic}
 use Rattle.reason.specs.Reasons.{reason_of}
 use Rattle.reason.specs.Turns.{because, by_result, reason_by, reason_for}
 
@@ -30,12 +30,12 @@ module _ (f : Format) (m : Pose) (g1 g2 : Shape) (dir : Vec3) (max_dist : Float)
   by-run = ap (λ (t : Gjk). reason_by f t m g1 g2 l) (run ∙ ap (closest_points f (from_shapes f m g1 g2) max_dist exact) start)
 
   -- by a result q
-  by-result : (q : GJKResult) → g.result ≡ q → by_result q (answered because (penetration plain f m g1 g2 g.simplex l)) (final None l) ≡ reason_for f m g1 g2 dir max_dist exact l
-  by-result q is = ap (λ (r : GJKResult). by_result r (answered because (penetration plain f m g1 g2 g.simplex l)) (final None l)) (sym is) ∙ by-run
+  by-result : (q : Result GJKResult WouldPanic) → g.result ≡ q → by_result q (answered because (penetration plain f m g1 g2 g.simplex l)) (final None l) ≡ reason_for f m g1 g2 dir max_dist exact l
+  by-result q is = ap (λ (r : Result GJKResult WouldPanic). by_result r (answered because (penetration plain f m g1 g2 g.simplex l)) (final None l)) (sym is) ∙ by-run
 
-  pub meets : {l1 : Lists} {y : Answer} {r : Reason} → g.result ≡ Intersection → final y l1 ≡ penetration plain f m g1 g2 g.simplex l → r ≡ reason_of y.end
+  pub meets : {l1 : Lists} {y : Answer} {r : Reason} → g.result ≡ Ok Intersection → final y l1 ≡ penetration plain f m g1 g2 g.simplex l → r ≡ reason_of y.end
       → final (Some r) l1 ≡ reason_for f m g1 g2 dir max_dist exact l
-  meets {l1} is e told = ap (λ (t : Reason). final (Some t) l1) told ∙ ap (answered because) e ∙ by-result Intersection is
+  meets {l1} is e told = ap (λ (t : Reason). final (Some t) l1) told ∙ ap (answered because) e ∙ by-result (Ok Intersection) is
 
-  pub apart : {q : GJKResult} → g.result ≡ q → ((meeting kept : Final MaybeReason) → by_result q meeting kept ≡ kept) → final None l ≡ reason_for f m g1 g2 dir max_dist exact l
+  pub apart : {q : Result GJKResult WouldPanic} → g.result ≡ q → ((meeting kept : Final (Option Reason)) → by_result q meeting kept ≡ kept) → final None l ≡ reason_for f m g1 g2 dir max_dist exact l
   apart {q} is same = sym (same _ (final None l)) ∙ by-result q is

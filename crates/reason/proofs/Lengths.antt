@@ -5,8 +5,9 @@ use mathlib.Core.List.{List}
 use native.Mathlib.Omega.{arith}
 use lib.ListN.{length, length-append}
 use borrow.Author.Tests.{le-leb}
-use Rattle.lines.specs.declared.text.Placed.TheVariants.{Next}
+use Rattle.std.specs.Prelude.{Ok}
 use Rattle.lines.specs.Text.{place_of}
+use Rattle.std.proofs.Common.{append_assoc}
 use Rattle.lines.proofs.Lengths.{number-length}
 use Rattle.reason.specs.declared.reasons.Reason.{Reason}
 use Rattle.reason.specs.declared.reasons.Reason.TheVariants as Why
@@ -33,6 +34,9 @@ unfolding reason_line
 line-length n r = simp length-append (omega (arith, number-length n, words-length r))
 
 -- the program sees to 209 bytes, as for the lines of `separation`
-pub line-fits : (o : List ℕ) (at n : ℕ) (r : Reason) → at + 209 ≤ length o → (place_of o at (reason_line n r)).answer ≡ Next (at + length (reason_line n r))
+pub line-fits : (o : List ℕ) (at n : ℕ) (r : Reason) → at + 209 ≤ length o → (place_of o at (reason_line n r)).answer ≡ Ok (at + length (reason_line n r))
 unfolding place_of
 line-fits o at n r h = rw (le-leb (at + length (reason_line n r)) (length o) (omega (arith, line-length n r)))
+
+-- what putting a line together needs: how long the parts are, and that parts are put one after the other
+pub ruleset parts = (append_assoc, length-append, number-length, words-length)

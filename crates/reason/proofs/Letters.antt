@@ -9,7 +9,7 @@ use Rattle.vector.specs.declared.vec3.Vec3.{Vec3}
 use Rattle.vector.specs.declared.pose.Pose.{Pose}
 use Rattle.shape.specs.declared.support.Shape.{Shape}
 use Rattle.gjk.specs.declared.rounds.GJKResult.{GJKResult}
-use Rattle.gjk.specs.declared.rounds.GJKResult.TheVariants.{Intersection, ClosestPoints, Proximity, NoIntersection, Refused}
+use Rattle.gjk.specs.declared.rounds.GJKResult.TheVariants.{Intersection, ClosestPoints, Proximity, NoIntersection}
 use Rattle.epa_polytope.specs.Stores.{Lists}
 use Rattle.epa_polytope.specs.declared.types.End.{End}
 use Rattle.epa_polytope.specs.declared.types.Found.TheVariants as Found
@@ -17,15 +17,15 @@ use Rattle.epa_polytope.specs.declared.types.Lost.TheVariants as Lost
 use Rattle.epa_polytope.specs.declared.types.Walk.TheVariants.{Plain as plain}
 use Rattle.epa.specs.declared.types.Answer.{Answer}
 use Rattle.epa.specs.Final.{Final, final, answered, penetration}
-use Rattle.lines.specs.declared.line.Counts.{Counts}
+use Rattle.counts.specs.declared.Counts.{Counts}
 use Rattle.lines.specs.declared.line.Outcome.{Outcome}
 use Rattle.lines.specs.Lines.{letter_of}
-use Rattle.outcome.specs.Outcome.{counts_of, ended_as, outcome_of}
+use Rattle.outcome.specs.Outcome.{ended_as, outcome_of}
 use Rattle.channel.specs.Channel as Channel
 use Rattle.reason.specs.declared.reasons.Reason.{Reason}
 use Rattle.reason.specs.declared.reasons.Reason.TheVariants as Why
-use Rattle.reason.specs.declared.words.MaybeReason.{MaybeReason}
-use Rattle.reason.specs.declared.words.MaybeReason.TheVariants.{Some, None}
+use Rattle.std.specs.Prelude.{Option, Some, None, Result, Ok, Err}
+use Rattle.refusal.specs.declared.WouldPanic.{WouldPanic}
 use Rattle.reason.specs.Reasons.{reason_of}
 use Rattle.reason.specs.Turns.{because, by_result, reason_for}
 
@@ -62,36 +62,36 @@ of_end (End.NoRoom store) c = refl
 
 of-run : (x : Answer) → letter_of (outcome_of x) ≡ letter_for (reason_of x.end)
 unfolding outcome_of
-of-run x = of_end x.end (counts_of x.counts)
+of-run x = of_end x.end x.counts
 
 -- by GJK's result
 
-abbrev letter_in : MaybeReason → ℕ
+abbrev letter_in : Option Reason → ℕ
 letter_in (Some r) = letter_for r
 letter_in None = 0
 
-abbrev some : MaybeReason → ℕ
+abbrev some : Option Reason → ℕ
 some (Some r) = 1
 some None = 0
 
 not-both : (r : Reason) → None ≡ Some r → ⊥
 not-both r e = let z : ◌≡◌ {A = ℕ} 0 1 = ap some e in omega arith
 
-of-result : (q : GJKResult) (run : Final Answer) (l : Lists) (r : Reason) → (by_result q (answered because run) (final None l)).answer ≡ Some r
+of-result : (q : Result GJKResult WouldPanic) (run : Final Answer) (l : Lists) (r : Reason) → (by_result q (answered because run) (final None l)).answer ≡ Some r
     → letter_of (Channel.by_result q (answered outcome_of run) (λ (o : Outcome). final o l)).answer ≡ letter_for r
-of-result Intersection run l r e = of-run run.answer ∙ ap letter_in e
-of-result (ClosestPoints a b d) run l r e = absurd (not-both r e)
-of-result (Proximity d) run l r e = absurd (not-both r e)
-of-result (NoIntersection d) run l r e = absurd (not-both r e)
-of-result Refused run l r e = absurd (not-both r e)
+of-result (Ok Intersection) run l r e = of-run run.answer ∙ ap letter_in e
+of-result (Ok (ClosestPoints a b d)) run l r e = absurd (not-both r e)
+of-result (Ok (Proximity d)) run l r e = absurd (not-both r e)
+of-result (Ok (NoIntersection d)) run l r e = absurd (not-both r e)
+of-result (Err x) run l r e = absurd (not-both r e)
 
-same_lists : (q : GJKResult) (run : Final Answer) (l : Lists)
+same_lists : (q : Result GJKResult WouldPanic) (run : Final Answer) (l : Lists)
     → (by_result q (answered because run) (final None l)).lists ≡ (Channel.by_result q (answered outcome_of run) (λ (o : Outcome). final o l)).lists
-same_lists Intersection run l = refl
-same_lists (ClosestPoints a b d) run l = refl
-same_lists (Proximity d) run l = refl
-same_lists (NoIntersection d) run l = refl
-same_lists Refused run l = refl
+same_lists (Ok Intersection) run l = refl
+same_lists (Ok (ClosestPoints a b d)) run l = refl
+same_lists (Ok (Proximity d)) run l = refl
+same_lists (Ok (NoIntersection d)) run l = refl
+same_lists (Err x) run l = refl
 
 module _ (f : Format) (m : Pose) (g1 g2 : Shape) (dir : Vec3) (max_dist : Float) (exact : Bool) (l : Lists) where
   pub letters-agree : (r : Reason) → (reason_for f m g1 g2 dir max_dist exact l).answer ≡ Some r → letter_of (Channel.separated f m g1 g2 dir max_dist exact l).answer ≡ letter_for r

@@ -1,5 +1,4 @@
 -- What the functions' proofs cite, and what document 02's ticket 5 asks.
-pub mod Placing
 pub mod Lengths
 pub mod Finding
 pub mod Turning

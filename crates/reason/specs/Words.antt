@@ -1,9 +1,7 @@
 -- The words of each reason, as lists of bytes, and the line of a record (document 02, ticket 5). Definitions only.
-use Rattle.std.specs.Prelude.{ℕ, List, [], ◌∷◌, ◌++◌}
+use Rattle.std.specs.Prelude.{ℕ, List, [], ◌∷◌, ◌++◌, Option, Some, None, Ok}
 use Rattle.lines.specs.Text.{After, after, place_of, decimal_of}
-use Rattle.lines.specs.declared.text.Placed.TheVariants as Placed
 use Rattle.reason.specs.declared.reasons.Reason.{Reason}
-use Rattle.reason.specs.declared.words.MaybeReason.{MaybeReason}
 
 unfoldable pub words_of : Reason → List ℕ
 -- `panic site`
@@ -46,6 +44,6 @@ unfoldable pub reason_line : ℕ → Reason → List ℕ
 reason_line number r = decimal_of number ++ 32 ∷ [] ++ words_of r ++ 10 ∷ []
 
 -- the line of a record that has a reason goes to the output's places from `at` on; of one that has none there is no line, and the place stays
-abbrev pub reason_placed : List ℕ → ℕ → ℕ → MaybeReason → After
-reason_placed o at number (MaybeReason.Some r) = place_of o at (reason_line number r)
-reason_placed o at number MaybeReason.None = after o (Placed.Next at)
+abbrev pub reason_placed : List ℕ → ℕ → ℕ → Option Reason → After
+reason_placed o at number (Some r) = place_of o at (reason_line number r)
+reason_placed o at number None = after o (Ok at)

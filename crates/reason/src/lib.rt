@@ -2,62 +2,69 @@
 #![tactic(auto)]
 
 ghost use Rattle.std.specs.Float.{binary32};
-ghost use Rattle.epa.specs.Final.{all_lent, Ends};
+ghost use Rattle.epa_stores.specs.Lent.{Kept};
+ghost use Rattle.epa.specs.Final.{EndsAll};
 ghost use Rattle.stream.specs.Reading.{told};
 ghost use Rattle.reason.specs.Turns.{reason_for, reason_turn};
 
 mod reasons;
 mod words;
 
+use casefile::{Case, Got};
+use epa_stores::Stores;
 use gjk::GJKResult;
 pub use reasons::{Reason, reason_of};
-use shape::Shape;
-use stream::Next;
-use vector::{Pose, Vec3};
+use refusal::WouldPanic;
+use shape::Pair;
 use window::Turn;
-pub use words::{MaybeReason, write_maybe, write_reason};
+pub use words::{write_maybe, write_reason};
 
 // The channel's run, as `channel::separate` has it, and why the polytope's part of it ended: none where GJK answered, or the
 // Rust panics in GJK.
-pub fn find_reason(
-    pos12: Pose,
-    g1: Shape,
-    g2: Shape,
-    dir: Vec3,
-    max_dist: f32,
-    exact: bool,
-    vertices: &mut [f32],
-    ids: &mut [usize],
-    floats: &mut [f32],
-    deleted: &mut [u8],
-    edges: &mut [usize],
-    heap_ids: &mut [usize],
-    heap_keys: &mut [f32],
-    pending: &mut [usize],
-) -> MaybeReason
-    ensures { Ends (reason_for binary32 pos12 g1 g2 dir max_dist exact) result (λ m. all_lent m vertices ids floats deleted edges heap_ids heap_keys pending) }
+pub fn find_reason(asked: Case, stores: &mut Stores<'_>) -> Option<Reason>
+    ensures answer { EndsAll (reason_for binary32 asked.pos12 asked.g1 asked.g2 asked.dir asked.max_dist asked.exact) result stores }
+    ensures kept { Kept stores }
 {
-    let start = channel::start_of(pos12, g1, g2, dir);
+    let Case {
+        g1,
+        g2,
+        pos12,
+        dir,
+        max_dist,
+        exact,
+    } = asked;
+    let pair = Pair { pos12, g1, g2 };
+    let start = channel::start_of(&pair, dir);
     let run = gjk::closest_points(pos12, g1, g2, max_dist, exact, start);
-    let result = run.result;
-    let left = run.simplex;
-    match result {
-        GJKResult::Intersection => {
+    match run.result {
+        Ok(GJKResult::Intersection) => {
+            // the lists one by one, as `channel::separate` hands them on
             let answer = epa::closest_points_plain(
-                pos12, g1, g2, left, vertices, ids, floats, deleted, edges, heap_ids, heap_keys,
-                pending,
+                pos12,
+                g1,
+                g2,
+                run.simplex,
+                stores.vertices,
+                stores.ids,
+                stores.floats,
+                stores.deleted,
+                stores.edges,
+                stores.heap_ids,
+                stores.heap_keys,
+                stores.pending,
             );
-            let end = answer.end;
-            MaybeReason::Some(reason_of(end))
+            Some(reason_of(answer.end))
         }
-        GJKResult::ClosestPoints(_, _, _) => MaybeReason::None,
-        GJKResult::Proximity(_) => MaybeReason::None,
-        GJKResult::NoIntersection(_) => MaybeReason::None,
-        GJKResult::Refused => MaybeReason::None,
+        Ok(GJKResult::ClosestPoints(_, _, _)) => None,
+        Ok(GJKResult::Proximity(_)) => None,
+        Ok(GJKResult::NoIntersection(_)) => None,
+        Err(WouldPanic) => None,
     }
 }
 
 // The next record is read and run, and the line of its reason, if it has one, goes to the places of `out` from `place` on.
+// A hint, as at `stream::answer_next`.
+#[inline(always)]
 pub fn reason_next(
     bytes: &[u8],
     at: usize,
@@ -65,44 +72,17 @@ pub fn reason_next(
     number: u64,
     out: &mut [u8],
     place: usize,
-    vertices: &mut [f32],
-    ids: &mut [usize],
-    floats: &mut [f32],
-    deleted: &mut [u8],
-    edges: &mut [usize],
-    heap_ids: &mut [usize],
-    heap_keys: &mut [f32],
-    pending: &mut [usize],
+    stores: &mut Stores<'_>,
 ) -> Turn
-    ensures { Ends (reason_turn binary32 bytes.now at base number out.old place) (told result out.new)
-        (λ m. all_lent m vertices ids floats deleted edges heap_ids heap_keys pending) }
+    ensures answer { EndsAll (reason_turn binary32 bytes.now at base number out.old place) (told result out.new) stores }
+    ensures kept { Kept stores }
 {
-    let read = stream::read_next(bytes, at, base, number, out, place);
-    match read {
-        Next::Whole { case, next } => {
-            let pos12 = case.pos12;
-            let g1 = case.g1;
-            let g2 = case.g2;
-            let dir = case.dir;
-            let reason = find_reason(
-                pos12,
-                g1,
-                g2,
-                dir,
-                case.max_dist,
-                case.exact,
-                vertices,
-                ids,
-                floats,
-                deleted,
-                edges,
-                heap_ids,
-                heap_keys,
-                pending,
-            );
+    match stream::read_next(bytes, at, base, number, out, place) {
+        Ok(Got { value: case, next }) => {
+            let reason = find_reason(case, stores);
             let written = write_maybe(out, place, number, reason);
             window::line_turn(next, written)
         }
-        Next::Over(turn) => turn,
+        Err(turn) => turn,
     }
 }

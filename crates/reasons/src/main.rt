@@ -3,7 +3,8 @@
 // bytes is `pipes`. The stores are those that `separation` lends.
 #![tactic(auto)]
 
-use pipes::{Ready, State};
+use epa_stores::Stores;
+use pipes::{End, Run};
 
 // `reason_next` takes no more than 4,294,967,295 records; the loop goes one further and so ends by itself.
 const MOST_TURNS: u64 = 4_294_967_296;
@@ -19,90 +20,69 @@ fn main(rt: HostRuntime) {
     let mut heap_ids = [0usize; 1000];
     let mut heap_keys = [0.0f32; 1000];
     let mut pending = [0usize; 412];
-    let mut state = State::Open(pipes::start(), 0);
-    let mut n: u64 = 0;
-    while n < MOST_TURNS {
-        let next = turn(
-            &rt,
-            state,
-            n + 1,
-            &mut input,
-            &mut out,
-            &mut vertices,
-            &mut ids,
-            &mut floats,
-            &mut deleted,
-            &mut edges,
-            &mut heap_ids,
-            &mut heap_keys,
-            &mut pending,
-        );
-        if !pipes::is_open(next) {
-            finish(&rt, next, &out);
+    let mut stores = Stores {
+        vertices: &mut vertices,
+        ids: &mut ids,
+        floats: &mut floats,
+        deleted: &mut deleted,
+        edges: &mut edges,
+        heap_ids: &mut heap_ids,
+        heap_keys: &mut heap_keys,
+        pending: &mut pending,
+    };
+    let mut state = Ok(Run {
+        window: pipes::start(),
+        place: 0,
+    });
+    for n in 0..MOST_TURNS {
+        state = turn(&rt, state, n + 1, &mut input, &mut out, &mut stores);
+        if let Err(end) = state {
+            finish(&rt, end, &out);
             return;
         }
-        state = next;
-        n = n + 1;
     }
-    finish(&rt, state, &out);
+    if let Ok(run) = state {
+        close(&rt, &out, run.place);
+    }
 }
 
 // The record `number` is run, where there is one.
+// Inlined like `reason_next`, and for its reason.
+#[inline(always)]
 fn turn(
     rt: &HostRuntime,
-    state: State,
+    state: Result<Run, End>,
     number: u64,
     input: &mut [u8],
     out: &mut [u8],
-    vertices: &mut [f32],
-    ids: &mut [usize],
-    floats: &mut [f32],
-    deleted: &mut [u8],
-    edges: &mut [usize],
-    heap_ids: &mut [usize],
-    heap_keys: &mut [f32],
-    pending: &mut [usize],
-) -> State {
-    let ready = pipes::make_ready(&mut rt.stdin(), &mut rt.stdout(), state, input, out);
-    match ready {
-        Ready::Over(over) => over,
-        Ready::Record(window, place) => {
-            let until = window.until;
-            let answer = reason::reason_next(
-                &input[..until],
-                window.from,
-                window.base,
-                number,
-                out,
-                place,
-                vertices,
-                ids,
-                floats,
-                deleted,
-                edges,
-                heap_ids,
-                heap_keys,
-                pending,
-            );
-            pipes::after(answer, window, place)
-        }
-    }
+    stores: &mut Stores<'_>,
+) -> Result<Run, End> {
+    let run = pipes::make_ready(&mut rt.stdin(), &mut rt.stdout(), state, input, out)?;
+    let answer = reason::reason_next(
+        &input[..run.window.until],
+        run.window.from,
+        run.window.base,
+        number,
+        out,
+        run.place,
+        stores,
+    );
+    pipes::after(answer, run.window, run.place)
 }
 
 // All lines that are not written yet.
-fn finish(rt: &HostRuntime, state: State, out: &[u8]) {
-    match state {
-        State::Open(_, place) => close(rt, out, place),
-        State::Done(place) => close(rt, out, place),
-        State::Failed(place) => {
-            pipes::flushed(&mut rt.stdout(), out, place);
+fn finish(rt: &HostRuntime, end: End, out: &[u8]) {
+    match end {
+        End::Done(place) => close(rt, out, place),
+        End::Failed(place) => {
+            let _ = pipes::flushed(&mut rt.stdout(), out, place);
             pipes::complain(&mut rt.stderr(), b"reasons: a read or a write failed\n");
         }
     }
 }
 
 fn close(rt: &HostRuntime, out: &[u8], place: usize) {
-    if !pipes::flushed(&mut rt.stdout(), out, place) {
+    if pipes::flushed(&mut rt.stdout(), out, place).is_err() {
         pipes::complain(&mut rt.stderr(), b"reasons: a write failed\n");
     }
 }

@@ -11,19 +11,18 @@ use lib.Dec.{eqb}
 use lib.ListN.{get_or}
 use lib.Ieee.{Float, Format}
 use borrow.Author.Tests.{leb-true, eqb-true, eqb-false}
-use Rattle.vector.specs.declared.vec3.Vec3.{Vec3}
 use Rattle.shape.specs.declared.vertex.Vertex.{Vertex}
 use Rattle.simplex.specs.declared.voronoi_simplex.VoronoiSimplex.{VoronoiSimplex}
 use Rattle.simplex.specs.Simplex.{is_simplex, nowhere, exchanged, swap_in}
 use Rattle.simplex.proofs.Laws.{small}
 use Rattle.reduction.specs.declared.location.Location.{Location}
 use Rattle.reduction.specs.declared.location.Location.TheVariants.{OnVertex, OnEdge, OnFace, OnSolid}
-use Rattle.reduction.specs.declared.location.Projected.{Projected}
-use Rattle.reduction.specs.declared.location.Projected.TheVariants.{At, Refused}
-use Rattle.reduction.specs.declared.applying.Application.TheVariants.{Taken, NoSuchLocation, Refused as NoSimplex}
-use Rattle.reduction.specs.Reduction.{project_origin, place_in, to_first, to_vertex, to_edge, reduce_segment, triangle_edge, reduce_triangle}
+use Rattle.std.proofs.Common.{Result, Ok, Err}
+use Rattle.refusal.specs.declared.WouldPanic.{WouldPanic}
+use Rattle.reduction.specs.declared.applying.ApplyError.TheVariants.{NoSuchLocation, NoSimplex}
+use Rattle.reduction.specs.Reduction.{Projected, project_origin, place_in, to_first, to_vertex, to_edge, reduce_segment, triangle_edge, reduce_triangle}
 use Rattle.reduction.specs.Reduction.{edge_first, tetrahedron_edge, reduce_tetrahedron, reduce_to}
-use Rattle.reduction.specs.Reduction.{has_location, applied_with, apply_location, reduced_at, project_origin_and_reduce}
+use Rattle.reduction.specs.Reduction.{has_location, taken_with, refused_with, apply_location, reduced_at, project_origin_and_reduce}
 use Rattle.reduction.specs.Kept.{Copied, kept_of_segment, kept_of_triangle, kept_of_tetrahedron, kept_places, among}
 use Rattle.reduction.proofs.Fits.{found-has}
 use Rattle.reduction.proofs.Faces.{low-place, other_place, to-first-place, one_kept, two-kept, three-kept, face-kept}
@@ -157,23 +156,23 @@ module _ (s : VoronoiSimplex) where
 -- ---- the operations
 
 -- ANY LOCATION THAT IS TAKEN
-pub taken-copies : (s : VoronoiSimplex) (l : Location) → (apply_location s l).outcome ≡ Taken → Copied s (apply_location s l).simplex (among (kept_places s.dim l))
+pub taken-copies : (s : VoronoiSimplex) (l : Location) → (apply_location s l).outcome ≡ Ok tt → Copied s (apply_location s l).simplex (among (kept_places s.dim l))
 unfolding apply_location
 taken-copies s l t = by (is_simplex s) (has_location s.dim l) refl refl t
   where
-    by : (a b : Bool) → is_simplex s ≡ a → has_location s.dim l ≡ b → (cond a (cond b (applied_with (reduce_to s l) Taken) (applied_with s NoSuchLocation)) (applied_with s NoSimplex)).outcome ≡ Taken
-        → Copied s (cond a (cond b (applied_with (reduce_to s l) Taken) (applied_with s NoSuchLocation)) (applied_with s NoSimplex)).simplex (among (kept_places s.dim l))
+    by : (a b : Bool) → is_simplex s ≡ a → has_location s.dim l ≡ b → (cond a (cond b (taken_with (reduce_to s l)) (refused_with s NoSuchLocation)) (refused_with s NoSimplex)).outcome ≡ Ok tt
+        → Copied s (cond a (cond b (taken_with (reduce_to s l)) (refused_with s NoSuchLocation)) (refused_with s NoSimplex)).simplex (among (kept_places s.dim l))
     by true true p q t = reduced-to s l (small s p).dimension q
     by true false p q t = let none : ◌≡◌ {A = ℕ} 0 1 = cc in absurd (omega arith)
     by false b p q t = let none : ◌≡◌ {A = ℕ} 0 1 = cc in absurd (omega arith)
 
 -- what is refused is left as it came in
-pub refused-copies : (s : VoronoiSimplex) (l : Location) → (apply_location s l).outcome ≢ Taken → Copied s (apply_location s l).simplex (λ i. i)
+pub refused-copies : (s : VoronoiSimplex) (l : Location) → (apply_location s l).outcome ≢ Ok tt → Copied s (apply_location s l).simplex (λ i. i)
 unfolding apply_location
 refused-copies s l n = by (is_simplex s) (has_location s.dim l) n
   where
-    by : (a b : Bool) → (cond a (cond b (applied_with (reduce_to s l) Taken) (applied_with s NoSuchLocation)) (applied_with s NoSimplex)).outcome ≢ Taken
-        → Copied s (cond a (cond b (applied_with (reduce_to s l) Taken) (applied_with s NoSuchLocation)) (applied_with s NoSimplex)).simplex (λ i. i)
+    by : (a b : Bool) → (cond a (cond b (taken_with (reduce_to s l)) (refused_with s NoSuchLocation)) (refused_with s NoSimplex)).outcome ≢ Ok tt
+        → Copied s (cond a (cond b (taken_with (reduce_to s l)) (refused_with s NoSuchLocation)) (refused_with s NoSimplex)).simplex (λ i. i)
     by true true n = absurd (n refl)
     by true false n = left-copies s
     by false b n = left-copies s
@@ -188,6 +187,6 @@ pub reduced-copies : (f : Format) (s : VoronoiSimplex) → CopiedFrom s (project
 unfolding project_origin_and_reduce
 reduced-copies f s = by (project_origin f s) (found-has f s)
   where
-    by : (x : Projected) → ((p : Vec3) (l : Location) → x ≡ At p l → (is_simplex s ≡ true) × (has_location s.dim l ≡ true)) → CopiedFrom s (reduced_at s x).simplex
-    by (At p l) has = let h = has p l refl in record { from = among (kept_places s.dim l); copied = reduced-to s l (small s h.0).dimension h.1 }
-    by Refused has = record { from = λ i. i; copied = left-copies s }
+    by : (x : Result Projected WouldPanic) → ((p : Projected) → x ≡ Ok p → (is_simplex s ≡ true) × (has_location s.dim p.location ≡ true)) → CopiedFrom s (reduced_at s x).simplex
+    by (Ok p) has = let h = has p refl in record { from = among (kept_places s.dim p.location); copied = reduced-to s p.location (small s h.0).dimension h.1 }
+    by (Err e) has = record { from = λ i. i; copied = left-copies s }

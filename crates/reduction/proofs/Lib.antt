@@ -1,6 +1,5 @@
--- Laws of the definitions: a location that is found is taken, what the numbers of a location are, and the swaps of a reduction are done.
+-- Laws of the definitions: a location that is found is taken, the swaps of a reduction are done, and what is live after it was live before.
 pub mod Fits
-pub mod Has
 pub mod Swaps
 pub mod Faces
 pub mod Kept

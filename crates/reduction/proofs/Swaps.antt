@@ -1,5 +1,5 @@
 -- The swaps of a reduction are never refused: on a simplex and places that there are, `swap` is done (`swap-done`) and exchanges the two (`swap-is`), and what it leaves is a simplex
--- for the next (`swap-keeps`). The code of this crate exchanges the two itself. Assumes nothing.
+-- for the next (`swap-keeps`). The code of this crate exchanges the two by the library's `swap`, of both arrays. Assumes nothing.
 use mathlib.Core.Path.{◌≡◌, ap}
 use mathlib.Core.Bool.{Bool, true, ◌&&◌}
 use mathlib.Core.List.{List, [], ◌∷◌}
@@ -8,8 +8,8 @@ use native.Mathlib.Omega.{arith}
 use borrow.Author.Tests.{lt-ltb, le-leb}
 use lib.Dec.{ltb}
 use lib.ListN.{set, get_or}
+use Rattle.std.proofs.Common.{Ok}
 use Rattle.simplex.specs.declared.voronoi_simplex.VoronoiSimplex.{VoronoiSimplex}
-use Rattle.simplex.specs.declared.operations.Outcome.TheVariants.{Done}
 use Rattle.simplex.specs.Simplex.{is_simplex, swap_in}
 use Rattle.simplex.specs.Operations.{altered_or, swap_simplex}
 use Rattle.simplex.proofs.Laws.{Small, small}
@@ -18,7 +18,7 @@ use Rattle.simplex.proofs.Laws.{Small, small}
 tested : (s : VoronoiSimplex) (i j : ℕ) → is_simplex s ≡ true → i < 4 → j < 4 → is_simplex s && ltb i 4 && ltb j 4 ≡ true
 tested s i j h li lj = rw (h, lt-ltb i 4 li, lt-ltb j 4 lj)
 
-pub swap-done : (s : VoronoiSimplex) (i j : ℕ) → is_simplex s ≡ true → i < 4 → j < 4 → (swap_simplex s i j).outcome ≡ Done
+pub swap-done : (s : VoronoiSimplex) (i j : ℕ) → is_simplex s ≡ true → i < 4 → j < 4 → (swap_simplex s i j).outcome ≡ Ok tt
 unfolding swap_simplex
 swap-done s i j h li lj = ap (λ (b : Bool). (altered_or b s (swap_in s i j)).outcome) (tested s i j h li lj)
 

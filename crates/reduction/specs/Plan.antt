@@ -1,15 +1,14 @@
 -- What a plan of src/applying.rt asks of a simplex, and which plans are right. Definitions only; contracts of private functions alone cite them.
-use Rattle.std.specs.Prelude.{ℕ, ◌<◌, ◌≡◌, List, set, Float}
+use Rattle.std.specs.Prelude.{ℕ, ◌<◌, ◌≡◌, List, set, Float, Result, Ok, Err}
 use Rattle.vector.specs.Vector.{one_f}
 use Rattle.simplex.specs.declared.voronoi_simplex.VoronoiSimplex.{VoronoiSimplex}
 use Rattle.simplex.specs.Simplex.{swap_in}
-use Rattle.reduction.specs.declared.applying.Application.{Application}
-use Rattle.reduction.specs.declared.applying.Application.TheVariants.{Taken}
+use Rattle.reduction.specs.declared.applying.ApplyError.{ApplyError}
 use Rattle.reduction.specs.declared.applying.Applied.{Applied}
 use Rattle.reduction.specs.declared.applying.Moves.{Moves}
 use Rattle.reduction.specs.declared.applying.Moves.TheVariants.{Stay, Swap, SwapBoth, Overwrite}
 use Rattle.reduction.specs.declared.applying.Plan.{Plan}
-use Rattle.reduction.specs.Reduction.{overwrite_in, place_in, edge_first, applied_with}
+use Rattle.reduction.specs.Reduction.{overwrite_in, place_in, edge_first, tetrahedron_face, taken_with, refused_with}
 
 -- the places of the vertices that move are there
 abbrev pub Places : Moves → Type 0
@@ -29,13 +28,8 @@ carried_out s p = place_in (moved_by s p.moves) p.proj p.dim
 
 -- ---- plans
 
--- of what is refused
-abbrev pub refused_plan : List Float → ℕ → Application → Plan
-refused_plan p d x = record { moves = Stay; proj = p; dim = d; outcome = x }
-
--- of what is taken
 abbrev pub planned : Moves → List Float → ℕ → Plan
-planned m p d = record { moves = m; proj = p; dim = d; outcome = Taken }
+planned m p d = record { moves = m; proj = p; dim = d }
 
 -- the weights of `to_first`
 abbrev pub vertex_plan : Moves → List Float → Plan
@@ -52,11 +46,20 @@ pub record EdgeFirst (i : ℕ) (m : Moves) : Type 0 where
   pub there : Places m
   pub first : (s : VoronoiSimplex) → moved_by s m ≡ edge_first s i
 
--- carried out on s, the plan gives the answer
-pub record Carries (s : VoronoiSimplex) (answer : Applied) (p : Plan) : Type 0 where
+-- carried out on s, the plan makes t of it
+pub record Makes (s t : VoronoiSimplex) (p : Plan) : Type 0 where
   pub there : Places p.moves
-  pub gives : applied_with (carried_out s p) p.outcome ≡ answer
+  pub gives : carried_out s p ≡ t
 
--- of any simplex with these weights and this dimension the plan makes what `reduce` does, and it is taken
+-- of any simplex with these weights and this dimension the plan makes what `reduce` does
 abbrev pub Plans : List Float → ℕ → (VoronoiSimplex → VoronoiSimplex) → Plan → Type 0
-Plans proj dim reduce p = (s : VoronoiSimplex) → let t = place_in s proj dim in Carries t (applied_with (reduce t) Taken) p
+Plans proj dim reduce p = (s : VoronoiSimplex) → let t = place_in s proj dim in Makes t (reduce t) p
+
+-- of any simplex the plan makes what `tetrahedron_face` does
+abbrev pub FacePlan : ℕ → Float → Float → Float → Plan → Type 0
+FacePlan i u v w p = (s : VoronoiSimplex) → Makes s (tetrahedron_face s i u v w) p
+
+-- the plan, carried out on s, is the answer; and so is the refusal, where there is none
+abbrev pub Answers : VoronoiSimplex → Applied → Result Plan ApplyError → Type 0
+Answers s answer (Ok p) = Places p.moves × (taken_with (carried_out s p) ≡ answer)
+Answers s answer (Err e) = refused_with s e ≡ answer

@@ -1,44 +1,46 @@
 -- `project_origin_and_reduce` as two operations: where the origin projects on a simplex, and what the simplex becomes at a location. Definitions only.
 -- Carries `project_origin` and `project_origin_and_reduce` of src/query/gjk/voronoi_simplex3.rs: finding the location and applying it, each by the Rust's cases.
-use Rattle.std.specs.Prelude.{ℕ, Bool, ◌&&◌, ◌||◌, cond, List, [], ◌∷◌, leb, ltb, eqb, set, Float}
+use Rattle.std.specs.Prelude.{ℕ, Bool, ◌&&◌, ◌||◌, cond, List, [], ◌∷◌, leb, ltb, eqb, set, Float, Result, Ok, Err}
 use Rattle.std.specs.Float.{Format}
 use Rattle.vector.specs.declared.vec3.Vec3.{Vec3}
 use Rattle.vector.specs.Vector.{one_f, zero_v}
 use Rattle.projection.specs.declared.segment.SegmentPointLocation.{SegmentPointLocation}
-use Rattle.projection.specs.declared.segment.SegmentProjection.{SegmentProjection}
+use Rattle.projection.specs.declared.point_query.Projection.{Projection}
 use Rattle.projection.specs.declared.triangle.TrianglePointLocation.{TrianglePointLocation}
 use Rattle.tetrahedron.specs.declared.TetrahedronPointLocation.{TetrahedronPointLocation}
-use Rattle.tetrahedron.specs.declared.TetrahedronProjection.{TetrahedronProjection}
 use Rattle.projection.specs.Values.{Values}
-use Rattle.projection.specs.Segment.{project_segment}
-use Rattle.projection.specs.Triangle.{project_triangle}
-use Rattle.tetrahedron.specs.Tetrahedron.{project_tetrahedron}
+use Rattle.projection.specs.Segment.{SegmentProjection, project_segment}
+use Rattle.projection.specs.Triangle.{TriangleProjection, project_triangle}
+use Rattle.tetrahedron.specs.Tetrahedron.{TetrahedronProjection, project_tetrahedron}
 use Rattle.simplex.specs.declared.voronoi_simplex.VoronoiSimplex.{VoronoiSimplex}
 use Rattle.simplex.specs.Simplex.{simplex_of, is_simplex, vertex_at, swap_in}
 use Rattle.reduction.specs.declared.location.Location.{Location}
 use Rattle.reduction.specs.declared.location.Location.TheVariants.{OnVertex, OnEdge, OnFace, OnSolid}
-use Rattle.reduction.specs.declared.location.Projected.{Projected}
-use Rattle.reduction.specs.declared.location.Projected.TheVariants.{At, Refused}
-use Rattle.reduction.specs.declared.applying.Application.{Application}
-use Rattle.reduction.specs.declared.applying.Application.TheVariants.{Taken, NoSuchLocation, Refused as NoSimplex}
+use Rattle.reduction.specs.declared.applying.ApplyError.{ApplyError}
+use Rattle.reduction.specs.declared.applying.ApplyError.TheVariants.{NoSuchLocation, NoSimplex}
 use Rattle.reduction.specs.declared.applying.Applied.{Applied}
+use Rattle.refusal.specs.declared.WouldPanic.{WouldPanic}
+use Rattle.refusal.specs.Refusal.{would_panic, number_or_panic}
+
+-- a point of a simplex, and where on it the point lies
+abbrev pub Projected : Type 0
+Projected = Projection Location
 
 -- ---- document 01's number and values of each answer
 
 -- of a projection: 0 or refusal 2; its values: point and location, and zeros for the refusal, the corner 0 being the location of zeros
-unfoldable pub projected_number : Projected → ℕ
-projected_number (At p l) = 0
-projected_number Refused = 2
+unfoldable pub projected_number : Result Projected WouldPanic → ℕ
+projected_number r = number_or_panic r
 
-unfoldable pub projected_values : Projected → Values Location
-projected_values (At p l) = record { point = p; location = l }
-projected_values Refused = record { point = zero_v; location = OnVertex 0 }
+unfoldable pub projected_values : Result Projected WouldPanic → Values Location
+projected_values (Ok p) = record { point = p.point; location = p.location }
+projected_values (Err e) = record { point = zero_v; location = OnVertex 0 }
 
 -- of applying a location: 0, refusal 7 or refusal 2; it has no values, the simplex stands beside it
-unfoldable pub application_number : Application → ℕ
-application_number Taken = 0
-application_number NoSuchLocation = 7
-application_number NoSimplex = 2
+unfoldable pub application_number : Result (Unit {0}) ApplyError → ℕ
+application_number (Ok u) = 0
+application_number (Err NoSuchLocation) = 7
+application_number (Err NoSimplex) = 2
 
 -- ---- `project_origin`: point and location; the simplex stays as it is
 
@@ -58,39 +60,41 @@ tetrahedron_location (TetrahedronPointLocation.OnEdge i u v) = OnEdge i u v
 tetrahedron_location (TetrahedronPointLocation.OnFace i u v w) = OnFace i u v w
 tetrahedron_location TetrahedronPointLocation.OnSolid = OnSolid
 
-abbrev pub segment_projected : SegmentProjection → Projected
-segment_projected (SegmentProjection.At p l) = At p (segment_location l)
-segment_projected SegmentProjection.Refused = Refused
+-- a projection, with its location as one on a simplex
+abbrev pub segment_projected : Result SegmentProjection WouldPanic → Result Projected WouldPanic
+segment_projected (Ok p) = Ok (record { point = p.point; location = segment_location p.location })
+segment_projected (Err e) = Err e
 
-abbrev pub tetrahedron_projected : TetrahedronProjection → Projected
-tetrahedron_projected (TetrahedronProjection.At p l) = At p (tetrahedron_location l)
-tetrahedron_projected TetrahedronProjection.Refused = Refused
+abbrev pub triangle_projected : TriangleProjection → Projected
+triangle_projected p = record { point = p.point; location = triangle_location p.location }
+
+abbrev pub tetrahedron_projected : Result TetrahedronProjection WouldPanic → Result Projected WouldPanic
+tetrahedron_projected (Ok p) = Ok (record { point = p.point; location = tetrahedron_location p.location })
+tetrahedron_projected (Err e) = Err e
 
 module _ (f : Format) where
-  unfoldable pub locate_segment : Vec3 → Vec3 → Projected
+  unfoldable pub locate_segment : Vec3 → Vec3 → Result Projected WouldPanic
   locate_segment a b = segment_projected (project_segment f (record { a = a; b = b }) zero_v)
 
   unfoldable pub locate_triangle : Vec3 → Vec3 → Vec3 → Projected
-  locate_triangle a b c =
-      let proj = project_triangle f (record { a = a; b = b; c = c }) zero_v in
-      At proj.point (triangle_location proj.location)
+  locate_triangle a b c = triangle_projected (project_triangle f (record { a = a; b = b; c = c }) zero_v)
 
-  unfoldable pub locate_tetrahedron : Vec3 → Vec3 → Vec3 → Vec3 → Projected
+  unfoldable pub locate_tetrahedron : Vec3 → Vec3 → Vec3 → Vec3 → Result Projected WouldPanic
   locate_tetrahedron a b c d = tetrahedron_projected (project_tetrahedron f (record { a = a; b = b; c = c; d = d }) zero_v)
 
   -- by the dimension
-  unfoldable pub find_location : VoronoiSimplex → Projected
+  unfoldable pub find_location : VoronoiSimplex → Result Projected WouldPanic
   find_location s =
       let a = (vertex_at s 0).point in
       let b = (vertex_at s 1).point in
       let c = (vertex_at s 2).point in
       let d = (vertex_at s 3).point in
-      cond (eqb s.dim 0) (At a (OnVertex 0))
+      cond (eqb s.dim 0) (Ok (record { point = a; location = OnVertex 0 }))
       (cond (eqb s.dim 1) (locate_segment a b)
-      (cond (eqb s.dim 2) (locate_triangle a b c) (locate_tetrahedron a b c d)))
+      (cond (eqb s.dim 2) (Ok (locate_triangle a b c)) (locate_tetrahedron a b c d)))
 
-  unfoldable pub project_origin : VoronoiSimplex → Projected
-  project_origin s = cond (is_simplex s) (find_location s) Refused
+  unfoldable pub project_origin : VoronoiSimplex → Result Projected WouldPanic
+  project_origin s = cond (is_simplex s) (find_location s) (Err would_panic)
 
 -- ---- what the simplex becomes at a location that it has; what it becomes at another is never asked
 
@@ -180,30 +184,33 @@ has_location d (OnEdge i u v) = (eqb d 1 && ltb i 1) || (eqb d 2 && ltb i 3) || 
 has_location d (OnFace i u v w) = eqb d 2 || (eqb d 3 && ltb i 4)
 has_location d OnSolid = eqb d 2 || eqb d 3
 
-abbrev pub applied_with : VoronoiSimplex → Application → Applied
-applied_with s x = record { simplex = s; outcome = x }
+abbrev pub taken_with : VoronoiSimplex → Applied
+taken_with s = record { simplex = s; outcome = Ok tt }
+
+abbrev pub refused_with : VoronoiSimplex → ApplyError → Applied
+refused_with s e = record { simplex = s; outcome = Err e }
 
 -- whether the value is a simplex is tested before all else; what is refused hands the simplex back as it came in
 unfoldable pub apply_location : VoronoiSimplex → Location → Applied
 apply_location s l =
     cond (is_simplex s)
-    (cond (has_location s.dim l) (applied_with (reduce_to s l) Taken) (applied_with s NoSuchLocation))
-    (applied_with s NoSimplex)
+    (cond (has_location s.dim l) (taken_with (reduce_to s l)) (refused_with s NoSuchLocation))
+    (refused_with s NoSimplex)
 
 -- ---- `project_origin_and_reduce`: the simplex is reduced to the location that was found for it. The two operations in turn are the same: proofs/Fits.antt, `both-in-turn`.
 
 pub record Reduced : Type 0 where
   pub simplex : VoronoiSimplex
-  pub projection : Projected
+  pub projection : Result Projected WouldPanic
 
-abbrev pub reduced_at : VoronoiSimplex → Projected → Reduced
-reduced_at s (At p l) = record { simplex = reduce_to s l; projection = At p l }
-reduced_at s Refused = record { simplex = s; projection = Refused }
+abbrev pub reduced_at : VoronoiSimplex → Result Projected WouldPanic → Reduced
+reduced_at s (Ok p) = record { simplex = reduce_to s p.location; projection = Ok p }
+reduced_at s (Err e) = record { simplex = s; projection = Err e }
 
 unfoldable pub project_origin_and_reduce : Format → VoronoiSimplex → Reduced
 project_origin_and_reduce f s = reduced_at s (project_origin f s)
 
 -- the two operations in turn, after the first: what was found is applied, and what applying answers is not looked at
-abbrev pub in_turn : VoronoiSimplex → Projected → Reduced
-in_turn s (At p l) = record { simplex = (apply_location s l).simplex; projection = At p l }
-in_turn s Refused = record { simplex = s; projection = Refused }
+abbrev pub in_turn : VoronoiSimplex → Result Projected WouldPanic → Reduced
+in_turn s (Ok p) = record { simplex = (apply_location s p.location).simplex; projection = Ok p }
+in_turn s (Err e) = record { simplex = s; projection = Err e }

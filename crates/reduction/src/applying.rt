@@ -1,29 +1,30 @@
 // What the simplex becomes at a location: the second half of `project_origin_and_reduce`. First a plan, of small values, of what the location
 // asks; then the plan is carried out in place, on one copy of the simplex: steps that hand on whole simplices would copy it at each. What is
 // private here is called with a location that the simplex has: `whole_plan` has tested it.
+#![tactic(auto, unfolding(crate::specs::Reduction::apply_location, crate::specs::Reduction::has_location, crate::specs::Reduction::reduce_to, crate::specs::Reduction::reduce_segment, crate::specs::Reduction::reduce_triangle, crate::specs::Reduction::triangle_edge, crate::specs::Reduction::reduce_tetrahedron, crate::specs::Reduction::tetrahedron_face, crate::specs::Reduction::edge_first, crate::specs::Reduction::to_first, crate::specs::Reduction::to_vertex, crate::specs::Reduction::to_edge, crate::specs::Reduction::overwrite_in, crate::specs::Reduction::place_in, simplex::specs::Simplex::swap_in, crate::specs::Plan::carried_out, crate::specs::Plan::moved_by))]
+
 ghost use Rattle.std.specs.Prelude.{◌≡◌, true, ◌≤◌};
 ghost use Rattle.number.specs.Told.{Told, no_values};
 ghost use Rattle.reduction.specs.Reduction.{reduce_segment, triangle_edge, reduce_triangle};
 ghost use Rattle.reduction.specs.Reduction.{tetrahedron_edge, tetrahedron_face, reduce_tetrahedron};
 ghost use Rattle.reduction.specs.Reduction.{has_location, reduce_to, apply_location, application_number};
-ghost use Rattle.reduction.specs.Plan.{Places, carried_out, planned, refused_plan, vertex_plan, edge_plan, EdgeFirst, Carries, Plans};
+ghost use Rattle.reduction.specs.Plan.{Places, carried_out, planned, vertex_plan, edge_plan, EdgeFirst, FacePlan, Plans, Answers};
 
 use crate::location::Location;
 use simplex::VoronoiSimplex;
 
-// Of `apply_location`: the location is taken; refusal 7, the simplex has no such location; refusal 2, the value is no simplex.
-#[derive(Clone, Copy)]
-pub enum Application {
-    Taken,
+// Why a location is not taken: refusal 7, the simplex has no such location; refusal 2, the value is no simplex.
+#[derive(Clone, Copy, Debug, PartialEq, Eq)]
+pub enum ApplyError {
     NoSuchLocation,
-    Refused,
+    NoSimplex,
 }
 
 // What is refused hands the simplex back as it came in.
 #[derive(Clone, Copy)]
 pub struct Applied {
     pub simplex: VoronoiSimplex,
-    pub outcome: Application,
+    pub outcome: Result<(), ApplyError>,
 }
 
 // Which vertices move: none; two change places; 0 with 2 and 1 with 3; or the last is written over one.
@@ -35,84 +36,123 @@ enum Moves {
     Overwrite(usize),
 }
 
-// What a location asks of a simplex: which vertices move, and the weights and the dimension that are left; and what is told of it.
+// What a location asks of a simplex: which vertices move, and the weights and the dimension that are left.
 #[derive(Clone, Copy)]
 struct Plan {
     moves: Moves,
     proj: [f32; 3],
     dim: usize,
-    outcome: Application,
 }
 
-// The plan of a location that the simplex has.
-fn taken(moves: Moves, proj: [f32; 3], dim: usize) -> Plan
+fn planned(moves: Moves, proj: [f32; 3], dim: usize) -> Plan
     ensures { result ≡ planned moves proj dim }
 {
-    Plan {
-        moves,
-        proj,
-        dim,
-        outcome: Application::Taken,
+    Plan { moves, proj, dim }
+}
+
+// All that a plan reads of a simplex: its weights and its dimension.
+#[derive(Clone, Copy)]
+struct Weights {
+    proj: [f32; 3],
+    dim: usize,
+}
+
+impl Weights {
+    // These vertices move, and the weights and the dimension stay.
+    fn moved(self, moves: Moves) -> Plan
+        ensures { result ≡ planned moves self.proj self.dim }
+    {
+        planned(moves, self.proj, self.dim)
     }
-}
 
-// The first vertex alone is left, with weight 1. The other weights stay old.
-fn vertex_plan(moves: Moves, old: [f32; 3]) -> Plan
-    ensures { result ≡ vertex_plan moves old }
-{
-    let mut proj = old;
-    proj[0] = 1.0;
-    taken(moves, proj, 0)
-}
+    // The first vertex alone is left, with weight 1. The other weights stay old.
+    fn vertex_plan(self, moves: Moves) -> Plan
+        ensures { result ≡ vertex_plan moves self.proj }
+    {
+        let mut proj = self.proj;
+        proj[0] = 1.0;
+        planned(moves, proj, 0)
+    }
 
-// The first two vertices get the weights u and v. The third weight stays old.
-fn edge_plan(moves: Moves, old: [f32; 3], u: f32, v: f32, dim: usize) -> Plan
-    ensures { result ≡ edge_plan moves old u v dim }
-{
-    let mut weights = old;
-    weights[0] = u;
-    weights[1] = v;
-    taken(moves, weights, dim)
-}
+    // The first two vertices get the weights u and v. The third weight stays old.
+    fn edge_plan(self, moves: Moves, u: f32, v: f32, dim: usize) -> Plan
+        ensures { result ≡ edge_plan moves self.proj u v dim }
+    {
+        let mut weights = self.proj;
+        weights[0] = u;
+        weights[1] = v;
+        planned(moves, weights, dim)
+    }
 
-fn segment_plan(proj: [f32; 3], dim: usize, location: Location) -> Plan
-    ensures { Plans proj dim (λ s. reduce_segment s location) result }
-{
-    match location {
-        Location::OnVertex(i) => {
-            if i == 0 {
-                return vertex_plan(Moves::Stay, proj);
-            }
-            vertex_plan(Moves::Swap(0, 1), proj)
+    fn segment_plan(self, location: Location) -> Plan
+        ensures { Plans self.proj self.dim (λ s. reduce_segment s location) result }
+    {
+        match location {
+            Location::OnVertex(0) => self.vertex_plan(Moves::Stay),
+            Location::OnVertex(_) => self.vertex_plan(Moves::Swap(0, 1)),
+            Location::OnEdge(_, u, v) => self.edge_plan(Moves::Stay, u, v, self.dim),
+            Location::OnFace(_, _, _, _) => self.moved(Moves::Stay),
+            Location::OnSolid => self.moved(Moves::Stay),
         }
-        Location::OnEdge(_, u, v) => edge_plan(Moves::Stay, proj, u, v, dim),
-        Location::OnFace(_, _, _, _) => taken(Moves::Stay, proj, dim),
-        Location::OnSolid => taken(Moves::Stay, proj, dim),
     }
-}
 
-// Edge 1, from b to c, leaves c and b with the weights exchanged.
-fn triangle_edge(proj: [f32; 3], dim: usize, i: u32, u: f32, v: f32) -> Plan
-    ensures { Plans proj dim (λ s. triangle_edge s i u v) result }
-{
-    if i == 0 {
-        return edge_plan(Moves::Stay, proj, u, v, 1);
+    // Edge 1, from b to c, leaves c and b with the weights exchanged.
+    fn triangle_edge(self, i: u32, u: f32, v: f32) -> Plan
+        ensures { Plans self.proj self.dim (λ s. triangle_edge s i u v) result }
+    {
+        match i {
+            0 => self.edge_plan(Moves::Stay, u, v, 1),
+            1 => self.edge_plan(Moves::Swap(0, 2), v, u, 1),
+            _ => self.edge_plan(Moves::Swap(1, 2), u, v, 1),
+        }
     }
-    if i == 1 {
-        return edge_plan(Moves::Swap(0, 2), proj, v, u, 1);
-    }
-    edge_plan(Moves::Swap(1, 2), proj, u, v, 1)
-}
 
-fn triangle_plan(proj: [f32; 3], dim: usize, location: Location) -> Plan
-    requires { has_location 2 location ≡ true }
-    ensures { Plans proj dim (λ s. reduce_triangle s location) result }
-{
-    match location {
-        Location::OnVertex(i) => vertex_plan(Moves::Swap(0, i as usize), proj),
-        Location::OnEdge(i, u, v) => triangle_edge(proj, dim, i, u, v),
-        Location::OnFace(_, u, v, w) => taken(Moves::Stay, [u, v, w], dim),
-        Location::OnSolid => taken(Moves::Stay, proj, dim),
+    fn triangle_plan(self, location: Location) -> Plan
+        requires { has_location 2 location ≡ true }
+        ensures { Plans self.proj self.dim (λ s. reduce_triangle s location) result }
+    {
+        match location {
+            Location::OnVertex(i) => self.vertex_plan(Moves::Swap(0, i as usize)),
+            Location::OnEdge(i, u, v) => self.triangle_edge(i, u, v),
+            Location::OnFace(_, u, v, w) => planned(Moves::Stay, [u, v, w], self.dim),
+            Location::OnSolid => self.moved(Moves::Stay),
+        }
+    }
+
+    // The swap of bc and of bd turns the edge round, and the weights with it.
+    fn tetrahedron_edge(self, i: u32, u: f32, v: f32) -> Plan
+        ensures { Plans self.proj self.dim (λ s. tetrahedron_edge s i u v) result }
+    {
+        let moves = edge_first(i);
+        match i {
+            3 | 4 => self.edge_plan(moves, v, u, 1),
+            _ => self.edge_plan(moves, u, v, 1),
+        }
+    }
+
+    fn tetrahedron_plan(self, location: Location) -> Plan
+        requires { has_location 3 location ≡ true }
+        ensures { Plans self.proj self.dim (λ s. reduce_tetrahedron s location) result }
+    {
+        match location {
+            Location::OnVertex(i) => self.vertex_plan(Moves::Swap(0, i as usize)),
+            Location::OnEdge(i, u, v) => self.tetrahedron_edge(i, u, v),
+            Location::OnFace(i, u, v, w) => tetrahedron_face(i, u, v, w),
+            Location::OnSolid => self.moved(Moves::Stay), // dimension and weights stay
+        }
+    }
+
+    // By the dimension.
+    fn plan_of(self, location: Location) -> Plan
+        requires { (self.dim ≤ 3) × (has_location self.dim location ≡ true) }
+        ensures { Plans self.proj self.dim (λ s. reduce_to s location) result }
+    {
+        match self.dim {
+            0 => self.vertex_plan(Moves::Stay),
+            1 => self.segment_plan(location),
+            2 => self.triangle_plan(location),
+            _ => self.tetrahedron_plan(location),
+        }
     }
 }
 
@@ -120,78 +160,26 @@ fn triangle_plan(proj: [f32; 3], dim: usize, location: Location) -> Plan
 fn edge_first(i: u32) -> Moves
     ensures { EdgeFirst i result }
 {
-    if i == 0 {
-        return Moves::Stay;
+    match i {
+        0 => Moves::Stay,
+        1 => Moves::Swap(1, 2),
+        2 => Moves::Swap(1, 3),
+        3 => Moves::Swap(0, 2),
+        4 => Moves::Swap(0, 3),
+        _ => Moves::SwapBoth,
     }
-    if i == 1 {
-        return Moves::Swap(1, 2);
-    }
-    if i == 2 {
-        return Moves::Swap(1, 3);
-    }
-    if i == 3 {
-        return Moves::Swap(0, 2);
-    }
-    if i == 4 {
-        return Moves::Swap(0, 3);
-    }
-    Moves::SwapBoth
-}
-
-// The swap of bc and of bd turns the edge round, and the weights with it.
-fn tetrahedron_edge(proj: [f32; 3], dim: usize, i: u32, u: f32, v: f32) -> Plan
-    ensures { Plans proj dim (λ s. tetrahedron_edge s i u v) result }
-{
-    let moves = edge_first(i);
-    if (i == 3) | (i == 4) {
-        return edge_plan(moves, proj, v, u, 1);
-    }
-    edge_plan(moves, proj, u, v, 1)
 }
 
 // d is written over the corner that face i (abc, abd, acd, bcd) has not got, and the weights follow.
-fn tetrahedron_face(proj: [f32; 3], dim: usize, i: u32, u: f32, v: f32, w: f32) -> Plan
-    ensures { Plans proj dim (λ s. tetrahedron_face s i u v w) result }
+fn tetrahedron_face(i: u32, u: f32, v: f32, w: f32) -> Plan
+    ensures { FacePlan i u v w result }
 {
-    if i == 0 {
-        return taken(Moves::Stay, [u, v, w], 2);
+    match i {
+        0 => planned(Moves::Stay, [u, v, w], 2),
+        1 => planned(Moves::Overwrite(2), [u, v, w], 2),
+        2 => planned(Moves::Overwrite(1), [u, w, v], 2),
+        _ => planned(Moves::Overwrite(0), [w, u, v], 2),
     }
-    if i == 1 {
-        return taken(Moves::Overwrite(2), [u, v, w], 2);
-    }
-    if i == 2 {
-        return taken(Moves::Overwrite(1), [u, w, v], 2);
-    }
-    taken(Moves::Overwrite(0), [w, u, v], 2)
-}
-
-fn tetrahedron_plan(proj: [f32; 3], dim: usize, location: Location) -> Plan
-    requires { has_location 3 location ≡ true }
-    ensures { Plans proj dim (λ s. reduce_tetrahedron s location) result }
-{
-    match location {
-        Location::OnVertex(i) => vertex_plan(Moves::Swap(0, i as usize), proj),
-        Location::OnEdge(i, u, v) => tetrahedron_edge(proj, dim, i, u, v),
-        Location::OnFace(i, u, v, w) => tetrahedron_face(proj, dim, i, u, v, w),
-        Location::OnSolid => taken(Moves::Stay, proj, dim), // dimension and weights stay
-    }
-}
-
-// By the dimension.
-fn plan_of(proj: [f32; 3], dim: usize, location: Location) -> Plan
-    requires { (dim ≤ 3) × (has_location dim location ≡ true) }
-    ensures { Plans proj dim (λ s. reduce_to s location) result }
-{
-    if dim == 0 {
-        return vertex_plan(Moves::Stay, proj);
-    }
-    if dim == 1 {
-        return segment_plan(proj, dim, location);
-    }
-    if dim == 2 {
-        return triangle_plan(proj, dim, location);
-    }
-    tetrahedron_plan(proj, dim, location)
 }
 
 // Whether a simplex of dimension dim has the location.
@@ -200,39 +188,33 @@ fn has_location(dim: usize, location: Location) -> bool
 {
     match location {
         Location::OnVertex(i) => i as usize <= dim,
-        Location::OnEdge(i, _, _) => {
-            ((dim == 1) & (i < 1)) | ((dim == 2) & (i < 3)) | ((dim == 3) & (i < 6))
-        }
-        Location::OnFace(i, _, _, _) => (dim == 2) | ((dim == 3) & (i < 4)),
-        Location::OnSolid => (dim == 2) | (dim == 3),
-    }
-}
-
-// The plan of a refusal: the simplex stays as it came in.
-fn refused(proj: [f32; 3], dim: usize, outcome: Application) -> Plan
-    ensures { result ≡ refused_plan proj dim outcome }
-{
-    Plan {
-        moves: Moves::Stay,
-        proj,
-        dim,
-        outcome,
+        Location::OnEdge(i, _, _) => match dim {
+            1 => i < 1,
+            2 => i < 3,
+            3 => i < 6,
+            _ => false,
+        },
+        Location::OnFace(i, _, _, _) => match dim {
+            2 => true,
+            3 => i < 4,
+            _ => false,
+        },
+        Location::OnSolid => dim == 2 || dim == 3,
     }
 }
 
 // Whether the value is a simplex is tested before all else.
-fn whole_plan(s: VoronoiSimplex, location: Location) -> Plan
-    ensures { Carries s (apply_location s location) result }
+fn whole_plan(s: VoronoiSimplex, location: Location) -> Result<Plan, ApplyError>
+    ensures { Answers s (apply_location s location) result }
 {
-    let proj = s.proj;
-    let dim = s.dim;
-    if s.is_simplex() {
-        if has_location(dim, location) {
-            return plan_of(proj, dim, location);
-        }
-        return refused(proj, dim, Application::NoSuchLocation);
+    if !s.is_simplex() {
+        return Err(ApplyError::NoSimplex);
     }
-    refused(proj, dim, Application::Refused)
+    if !has_location(s.dim, location) {
+        return Err(ApplyError::NoSuchLocation);
+    }
+    let VoronoiSimplex { proj, dim, .. } = s;
+    Ok(Weights { proj, dim }.plan_of(location))
 }
 
 // The plan carried out. Where the last vertex is written over another the Rust does not swap, so `prev_point` shows the new vertex.
@@ -241,42 +223,19 @@ fn rearranged(s: VoronoiSimplex, plan: Plan) -> VoronoiSimplex
     ensures { result ≡ carried_out s plan }
 {
     let mut t = s;
-    let moves = plan.moves;
-    match moves {
+    match plan.moves {
         Moves::Stay => {}
         Moves::Swap(i, j) => {
-            let a = t.vertices[i];
-            let b = t.vertices[j];
-            t.vertices[i] = b;
-            t.vertices[j] = a;
-            let x = t.prev_vertices[i];
-            let y = t.prev_vertices[j];
-            t.prev_vertices[i] = y;
-            t.prev_vertices[j] = x;
+            t.vertices.swap(i, j);
+            t.prev_vertices.swap(i, j);
         }
-        // Two swaps, as in the Rust: the second reads what the first has written.
         Moves::SwapBoth => {
-            let a = t.vertices[0];
-            let c = t.vertices[2];
-            t.vertices[0] = c;
-            t.vertices[2] = a;
-            let b = t.vertices[1];
-            let d = t.vertices[3];
-            t.vertices[1] = d;
-            t.vertices[3] = b;
-            let x = t.prev_vertices[0];
-            let z = t.prev_vertices[2];
-            t.prev_vertices[0] = z;
-            t.prev_vertices[2] = x;
-            let y = t.prev_vertices[1];
-            let w = t.prev_vertices[3];
-            t.prev_vertices[1] = w;
-            t.prev_vertices[3] = y;
+            t.vertices.swap(0, 2);
+            t.vertices.swap(1, 3);
+            t.prev_vertices.swap(0, 2);
+            t.prev_vertices.swap(1, 3);
         }
-        Moves::Overwrite(i) => {
-            let last = t.vertices[3];
-            t.vertices[i] = last;
-        }
+        Moves::Overwrite(i) => t.vertices[i] = t.vertices[3],
     }
     let proj = plan.proj;
     t.proj = proj;
@@ -289,10 +248,14 @@ pub fn apply_location(simplex: VoronoiSimplex, location: Location) -> Applied
     ensures answer { result ≡ apply_location simplex location }
     ensures told { Told application_number no_values result.outcome (apply_location simplex location).outcome }
 {
-    let plan = whole_plan(simplex, location);
-    let outcome = plan.outcome;
-    Applied {
-        simplex: rearranged(simplex, plan),
-        outcome,
+    match whole_plan(simplex, location) {
+        Ok(plan) => Applied {
+            simplex: rearranged(simplex, plan),
+            outcome: Ok(()),
+        },
+        Err(refusal) => Applied {
+            simplex,
+            outcome: Err(refusal),
+        },
     }
 }

@@ -6,5 +6,5 @@
 mod applying;
 mod location;
 
-pub use applying::{Application, Applied, apply_location};
+pub use applying::{Applied, ApplyError, apply_location};
 pub use location::{Location, Projected, project_origin};

@@ -8,6 +8,7 @@ ghost use Rattle.shape.specs.Support.{unit_for, local_support_point, local_suppo
 use crate::vertex::Vertex;
 use vector::{Pose, Vec3};
 
+// A rule of the project keeps this form: a closed enum of shapes, whose cases carry numbers.
 #[derive(Clone, Copy)]
 pub enum Shape {
     // its radius
@@ -46,7 +47,7 @@ impl Shape {
         ensures { result ≡ local_support_point_toward binary32 self dir }
     {
         match self {
-            Shape::Ball(radius) => dir.scale(radius),
+            Shape::Ball(radius) => dir * radius,
             Shape::Cuboid(x, y, z) => cuboid_local(Vec3::new(x, y, z), dir),
             Shape::Capsule(ax, ay, az, bx, by, bz, radius) => {
                 capsule_toward(Vec3::new(ax, ay, az), Vec3::new(bx, by, bz), radius, dir)
@@ -109,7 +110,7 @@ fn ball_toward(m: Pose, radius: f32, dir: Vec3) -> Vec3
     ensures { result ≡ ball_toward binary32 m radius dir }
 {
     let translation = m.translation;
-    translation.add(dir.scale(radius))
+    translation + dir * radius
 }
 
 // cuboid.rs, `local_support_point`: each half extent with the sign of `dir`'s component.
@@ -128,9 +129,9 @@ fn capsule_toward(a: Vec3, b: Vec3, radius: f32, dir: Vec3) -> Vec3
     ensures { result ≡ capsule_toward binary32 a b radius dir }
 {
     if dir.dot(a) > dir.dot(b) {
-        a.add(dir.scale(radius))
+        a + dir * radius
     } else {
-        b.add(dir.scale(radius))
+        b + dir * radius
     }
 }
 
@@ -153,7 +154,7 @@ pub fn from_shapes(pos12: Pose, g1: Shape, g2: Shape, dir: Vec3) -> Vertex
     ensures { result ≡ from_shapes binary32 pos12 g1 g2 dir }
 {
     let sp1 = g1.local_support_point(dir);
-    let sp2 = g2.support_point(pos12, dir.neg());
+    let sp2 = g2.support_point(pos12, -dir);
     Vertex::new(sp1, sp2)
 }
 
@@ -162,6 +163,6 @@ pub fn from_shapes_toward(pos12: Pose, g1: Shape, g2: Shape, dir: Vec3) -> Verte
     ensures { result ≡ from_shapes_toward binary32 pos12 g1 g2 dir }
 {
     let sp1 = g1.local_support_point_toward(dir);
-    let sp2 = g2.support_point_toward(pos12, dir.neg());
+    let sp2 = g2.support_point_toward(pos12, -dir);
     Vertex::new(sp1, sp2)
 }

@@ -4,6 +4,7 @@ ghost use Rattle.std.specs.Prelude.{◌≡◌};
 ghost use Rattle.std.specs.Float.{binary32};
 ghost use Rattle.shape.specs.Vertex.{new_vertex, vertex_with_point, single_point, origin_vertex, translate_vertex, sub_vertex};
 
+use std::ops::Sub;
 use vector::Vec3;
 
 #[repr(C)]
@@ -25,7 +26,7 @@ impl Vertex {
     pub fn new(orig1: Vec3, orig2: Vec3) -> Vertex
         ensures { result ≡ new_vertex binary32 orig1 orig2 }
     {
-        let point = orig1.sub(orig2);
+        let point = orig1 - orig2;
         Vertex::new_with_point(point, orig1, orig2)
     }
 
@@ -55,14 +56,17 @@ impl Vertex {
         ensures { result ≡ translate_vertex binary32 self dir }
     {
         let point = self.point;
-        Vertex::new_with_point(point.add(dir), self.orig1, self.orig2)
+        Vertex::new_with_point(point + dir, self.orig1, self.orig2)
     }
+}
 
-    // `self - other`: the difference of their points
-    pub fn sub(self, other: Vertex) -> Vec3
-        ensures { result ≡ sub_vertex binary32 self other }
-    {
-        let point = self.point;
-        point.sub(other.point)
+// The difference of their points.
+impl Sub for Vertex {
+    type Output = Vec3;
+
+    ghost sub_gives = { λ v w r. r ≡ sub_vertex binary32 v w };
+
+    fn sub(self, other: Vertex) -> Vec3 {
+        self.point - other.point
     }
 }

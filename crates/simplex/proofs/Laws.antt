@@ -46,16 +46,7 @@ small s h =
     each at h0 h1 h2 h3 (suc (suc (suc zero))) l = h3
     each at h0 h1 h2 h3 (suc (suc (suc (suc i)))) l = absurd (omega arith)
 
--- ---- the joined tests of the operations
-
-pub two-places : (s : VoronoiSimplex) (i j : ℕ) → is_simplex s && ltb i 4 && ltb j 4 ≡ true → (i < 4) × (j < 4)
-two-places s i j h = let t = all_three (is_simplex s) (ltb i 4) (ltb j 4) h in (ltb-true i 4 t.1, ltb-true j 4 t.2)
-
-pub one_place : (s : VoronoiSimplex) (i d : ℕ) → is_simplex s && leb i d ≡ true → Small s × (i ≤ d)
-one_place s i d h = let t = both (is_simplex s) (leb i d) h in (small s t.0, leb-true i d t.1)
-
-pub one-weight : (s : VoronoiSimplex) (i d : ℕ) → is_simplex s && leb i d && ltb i 3 ≡ true → i < 3
-one-weight s i d h = let t = all_three (is_simplex s) (leb i d) (ltb i 3) h in ltb-true i 3 t.2
+-- ---- the joined test of `add_point`
 
 pub room : (s : VoronoiSimplex) → is_simplex s && ltb s.dim 3 ≡ true → s.dim < 3
 room s h = ltb-true s.dim 3 (both (is_simplex s) (ltb s.dim 3) h).1

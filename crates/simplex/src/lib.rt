@@ -7,5 +7,5 @@ mod operations;
 mod steps;
 mod voronoi_simplex;
 
-pub use operations::{Added, Altered, Answer, Corner, Dimension, Outcome, Scalar};
+pub use operations::{Added, Altered};
 pub use voronoi_simplex::VoronoiSimplex;

@@ -30,15 +30,16 @@ impl VoronoiSimplex {
     }
 
     // Whether the dimensions and the previous places are at most 3, as those of the Rust's simplices are.
+    #[tactic(auto, unfolding(crate::specs::Simplex::is_simplex))]
     pub fn is_simplex(self) -> bool
         ensures { result ≡ is_simplex self }
     {
         let places = self.prev_vertices;
-        (self.dim <= 3)
-            & (self.prev_dim <= 3)
-            & (places[0] <= 3)
-            & (places[1] <= 3)
-            & (places[2] <= 3)
-            & (places[3] <= 3)
+        self.dim <= 3
+            && self.prev_dim <= 3
+            && places[0] <= 3
+            && places[1] <= 3
+            && places[2] <= 3
+            && places[3] <= 3
     }
 }

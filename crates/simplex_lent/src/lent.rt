@@ -6,13 +6,13 @@ ghost use Rattle.number.specs.Told.{Told, no_values};
 ghost use Rattle.simplex.specs.Operations.{reset_simplex, altered_number, add_point, answer_number, answer_value};
 ghost use Rattle.reduction.specs.Reduction.{project_origin, projected_number, projected_values, apply_location, application_number, project_origin_and_reduce};
 
-use crate::turns::in_turn;
-use reduction::{Application, Location, Projected};
+use reduction::{ApplyError, Location, Projected};
+use refusal::WouldPanic;
 use shape::Vertex;
-use simplex::{Answer, Outcome, VoronoiSimplex};
+use simplex::VoronoiSimplex;
 
 // The simplex becomes the one vertex.
-pub fn reset(s: &mut VoronoiSimplex, pt: Vertex) -> Outcome
+pub fn reset(s: &mut VoronoiSimplex, pt: Vertex) -> Result<(), WouldPanic>
     ensures answer { (s.new ≡ (reset_simplex s.old pt).simplex) × (result ≡ (reset_simplex s.old pt).outcome) }
     ensures told { Told altered_number no_values result (reset_simplex s.old pt).outcome }
 {
@@ -22,7 +22,7 @@ pub fn reset(s: &mut VoronoiSimplex, pt: Vertex) -> Outcome
 }
 
 // Adds a vertex, and answers no where it would add nothing.
-pub fn add_point(s: &mut VoronoiSimplex, pt: Vertex) -> Answer
+pub fn add_point(s: &mut VoronoiSimplex, pt: Vertex) -> Result<bool, WouldPanic>
     ensures answer { (s.new ≡ (add_point binary32 s.old pt).simplex) × (result ≡ (add_point binary32 s.old pt).answer) }
     ensures told { Told answer_number answer_value result (add_point binary32 s.old pt).answer }
 {
@@ -32,7 +32,7 @@ pub fn add_point(s: &mut VoronoiSimplex, pt: Vertex) -> Answer
 }
 
 // Where the origin projects on the simplex, which stays as it is.
-pub fn project_origin(s: &VoronoiSimplex) -> Projected
+pub fn project_origin(s: &VoronoiSimplex) -> Result<Projected, WouldPanic>
     ensures answer { result ≡ project_origin binary32 s.now }
     ensures told { Told projected_number projected_values result (project_origin binary32 s.now) }
 {
@@ -40,7 +40,7 @@ pub fn project_origin(s: &VoronoiSimplex) -> Projected
 }
 
 // Reduces the simplex to a location.
-pub fn apply_location(s: &mut VoronoiSimplex, location: Location) -> Application
+pub fn apply_location(s: &mut VoronoiSimplex, location: Location) -> Result<(), ApplyError>
     ensures answer { (s.new ≡ (apply_location s.old location).simplex) × (result ≡ (apply_location s.old location).outcome) }
     ensures told { Told application_number no_values result (apply_location s.old location).outcome }
 {
@@ -49,12 +49,14 @@ pub fn apply_location(s: &mut VoronoiSimplex, location: Location) -> Application
     r.outcome
 }
 
-// Both in turn: projects the origin on the simplex, and reduces it to the part that holds the projection.
-pub fn project_origin_and_reduce(s: &mut VoronoiSimplex) -> Projected
+// Both in turn: projects the origin on the simplex, and reduces it to the part that holds the projection. A location that was found for a
+// simplex is always taken, so the answer of applying it is not looked at (`both-in-turn` of `reduction`).
+pub fn project_origin_and_reduce(s: &mut VoronoiSimplex) -> Result<Projected, WouldPanic>
     ensures answer { (s.new ≡ (project_origin_and_reduce binary32 s.old).simplex) × (result ≡ (project_origin_and_reduce binary32 s.old).projection) }
     ensures told { Told projected_number projected_values result (project_origin_and_reduce binary32 s.old).projection }
 {
-    let r = in_turn(*s);
+    let projection = reduction::project_origin(*s)?;
+    let r = reduction::apply_location(*s, projection.location);
     *s = r.simplex;
-    r.projection
+    Ok(projection)
 }

@@ -3,6 +3,5 @@
 #![tactic(auto)]
 
 mod lent;
-mod turns;
 
 pub use lent::{add_point, apply_location, project_origin, project_origin_and_reduce, reset};

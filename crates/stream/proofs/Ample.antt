@@ -5,7 +5,8 @@ use Prim.Native.Nat.{ℕ, ◌≤◌}
 use lib.Ieee.{Format}
 use borrow.Author.Tests.{le-ltb}
 use Rattle.casefile.specs.declared.records.Case.{Case}
-use Rattle.casefile.specs.declared.records.CaseAnswer.TheVariants.{Whole}
+use Rattle.std.specs.Prelude.{Ok}
+use Rattle.casefile.specs.Numbers.{got}
 use Rattle.casefile.specs.Records.{read_case}
 use Rattle.lines.specs.declared.line.Outcome.{Outcome}
 use Rattle.lines.specs.Text.{place_of}
@@ -23,7 +24,7 @@ pub record Line (f : Format) (b : List ℕ) (at base number : ℕ) (o : List ℕ
   pub told : (turn_of f b at base number o place l).answer ≡ line_told next (place_of o place (line_of f number outcome))
   pub placed : HadRoom outcome
 
-pub ample-line : (f : Format) (b : List ℕ) (at base number : ℕ) (o : List ℕ) (place : ℕ) (c : Case) (next : ℕ) (l : Lists) → Ample l → number ≤ most_records → read_case f b at ≡ Whole c next
+pub ample-line : (f : Format) (b : List ℕ) (at base number : ℕ) (o : List ℕ) (place : ℕ) (c : Case) (next : ℕ) (l : Lists) → Ample l → number ≤ most_records → read_case f b at ≡ Ok (got c next)
     → Line f b at base number o place next l
 unfolding turn_of read_next
 ample-line f b at base number o place c next l room few e = record {

@@ -9,19 +9,22 @@ use mathlib.Core.Logic.{◌⊎◌, ⊎_elim}
 use lib.ListN.{length, length-append}
 use lib.Dec.{ltb}
 use lib.Ieee.{Format}
-use Rattle.casefile.specs.declared.records.CaseAnswer.{CaseAnswer}
+use Rattle.casefile.specs.declared.records.Case.{Case}
+use Rattle.casefile.specs.declared.records.CaseError.{CaseError}
+use Rattle.casefile.specs.declared.records.CaseError.TheVariants.{Malformed, Ended}
+use Rattle.casefile.specs.declared.numbers.Got.{Got}
+use Rattle.casefile.specs.Numbers.{got}
+use Rattle.std.specs.Prelude.{Result, Ok, Err}
+use Rattle.refusal.specs.declared.NoRoom.{NoRoom}
 use Rattle.casefile.specs.Records.{read_case}
 use Rattle.casefile.proofs.Streams.{longer, enough}
-use Rattle.casefile.proofs.Shifts.{moved_case, shifted-case}
-use Rattle.lines.specs.declared.text.Placed.{Placed}
-use Rattle.lines.specs.declared.text.Placed.TheVariants as Place
+use Rattle.casefile.proofs.Shifts.{moved, shifted-case}
 use Rattle.lines.specs.Text.{place_of}
 use Rattle.lines.specs.Lines.{bad_line}
 use Rattle.epa_polytope.specs.Stores.{Lists}
 use Rattle.epa.specs.Final.{final, answered}
 use Rattle.window.specs.declared.Turn.{Turn}
 use Rattle.window.specs.Window.{offset_of, line_turn, bad_turn}
-use Rattle.stream.specs.declared.Next.{Next}
 use Rattle.stream.specs.Reading.{Told, told, bad_told, Read, read, over, read_by, most_records, read_next, Answering, turn_at, turn_by, turn_with}
 
 -- ---- the same turn, with the next record's place k further on
@@ -35,27 +38,27 @@ moved_turn k Turn.AllRead = Turn.AllRead
 abbrev pub moved_told : ℕ → Told → Told
 moved_told k x = told (moved_turn k x.turn) x.out
 
-abbrev pub moved_next : ℕ → Next → Next
-moved_next k (Next.Whole c next) = Next.Whole c (k + next)
-moved_next k (Next.Over t) = Next.Over (moved_turn k t)
+abbrev pub moved_next : ℕ → Result (Got Case) Turn → Result (Got Case) Turn
+moved_next k (Ok g) = Ok (got g.value (k + g.next))
+moved_next k (Err t) = Err (moved_turn k t)
 
 abbrev pub moved_read : ℕ → Read → Read
 moved_read k x = read (moved_next k x.next) x.out
 
-moved-line : (k next : ℕ) (w : Placed) → line_turn (k + next) w ≡ moved_turn k (line_turn next w)
-moved-line k next (Place.Next p) = refl
-moved-line k next Place.NoRoom = refl
+moved-line : (k next : ℕ) (w : Result ℕ NoRoom) → line_turn (k + next) w ≡ moved_turn k (line_turn next w)
+moved-line k next (Ok p) = refl
+moved-line k next (Err e) = refl
 
-moved-bad : (k : ℕ) (w : Placed) → bad_turn w ≡ moved_turn k (bad_turn w)
-moved-bad k (Place.Next p) = refl
-moved-bad k Place.NoRoom = refl
+moved-bad : (k : ℕ) (w : Result ℕ NoRoom) → bad_turn w ≡ moved_turn k (bad_turn w)
+moved-bad k (Ok p) = refl
+moved-bad k (Err e) = refl
 
 -- the turn of what reading came to
-moved_at : (w : Answering) (k : ℕ) (x : Next) (o : List ℕ) (l : Lists) → turn_at w (moved_next k x) o l ≡ answered (moved_told k) (turn_at w x o l)
-moved_at w k (Next.Whole c next) o l =
-    let x = w o c l in
-    ap (λ (t : Turn). final (told t x.answer.bytes) x.lists) (moved-line k next x.answer.answer)
-moved_at w k (Next.Over t) o l = refl
+moved_at : (w : Answering) (k : ℕ) (x : Result (Got Case) Turn) (o : List ℕ) (l : Lists) → turn_at w (moved_next k x) o l ≡ answered (moved_told k) (turn_at w x o l)
+moved_at w k (Ok g) o l =
+    let x = w o g.value l in
+    ap (λ (t : Turn). final (told t x.answer.bytes) x.lists) (moved-line k g.next x.answer.answer)
+moved_at w k (Err t) o l = refl
 
 -- a place of the window, told from the file's start
 pub same-offset : (k p : ℕ) → offset_of 0 (k + p) ≡ offset_of k p
@@ -66,7 +69,7 @@ module _ (f : Format) (front s behind : List ℕ) (at number : ℕ) (o : List �
   k = length front
 
   -- what reading comes to by what was found, of which nothing but `Ended` asks for the length
-  abbrev by : CaseAnswer → List ℕ → ℕ → Read
+  abbrev by : Result (Got Case) CaseError → List ℕ → ℕ → Read
   by x bytes base = read_by x bytes base o place
 
   -- the window holds what decides the record
@@ -78,19 +81,19 @@ module _ (f : Format) (front s behind : List ℕ) (at number : ℕ) (o : List �
       let w = place_of o place (bad_line y) in
       ap (λ (z : ℕ). over (bad_told (place_of o place (bad_line z)))) e ∙ ap (λ (t : Turn). over (told t w.bytes)) (moved-bad k w.answer)
 
-  moved_by : (x : CaseAnswer) (bytes : List ℕ) → (x ≡ CaseAnswer.Ended → length bytes ≡ k + length s) → by (moved_case k x) bytes 0 ≡ moved_read k (by x s k)
-  moved_by (CaseAnswer.Whole c next) bytes h = refl
-  moved_by (CaseAnswer.Malformed b) bytes h = bad-line (offset_of 0 (k + b)) (offset_of k b) (same-offset k b)
-  moved_by CaseAnswer.Ended bytes h = bad-line (offset_of 0 (length bytes)) (offset_of k (length s)) (ap (offset_of 0) (h refl) ∙ same-offset k (length s))
+  moved_by : (x : Result (Got Case) CaseError) (bytes : List ℕ) → (x ≡ Err Ended → length bytes ≡ k + length s) → by (moved k x) bytes 0 ≡ moved_read k (by x s k)
+  moved_by (Ok g) bytes h = refl
+  moved_by (Err (Malformed b)) bytes h = bad-line (offset_of 0 (k + b)) (offset_of k b) (same-offset k b)
+  moved_by (Err Ended) bytes h = bad-line (offset_of 0 (length bytes)) (offset_of k (length s)) (ap (offset_of 0) (h refl) ∙ same-offset k (length s))
 
   -- the record that the window has is the file's
-  pub same_case : Holds → read_case f (front ++ (s ++ behind)) (k + at) ≡ moved_case k (read_case f s at)
+  pub same_case : Holds → read_case f (front ++ (s ++ behind)) (k + at) ≡ moved k (read_case f s at)
   same_case = ⊎_elim
-      (λ fits. shifted-case f front (s ++ behind) at ∙ ap (moved_case k) (longer f s behind at (enough f s at fits)))
-      (λ none. shifted-case f front (s ++ behind) at ∙ ap (λ (t : List ℕ). moved_case k (read_case f t at)) (ap (λ (t : List ℕ). s ++ t) none ∙ append-nil s))
+      (λ fits. shifted-case f front (s ++ behind) at ∙ ap (moved k) (longer f s behind at (enough f s at fits)))
+      (λ none. shifted-case f front (s ++ behind) at ∙ ap (λ (t : List ℕ). moved k (read_case f t at)) (ap (λ (t : List ℕ). s ++ t) none ∙ append-nil s))
 
   -- a record that ends with the window does so because the file does
-  pub same_end : Holds → read_case f s at ≡ CaseAnswer.Ended → length (front ++ (s ++ behind)) ≡ k + length s
+  pub same_end : Holds → read_case f s at ≡ Err Ended → length (front ++ (s ++ behind)) ≡ k + length s
   same_end = ⊎_elim
       (λ fits e. absurd (enough f s at fits e))
       (λ none e. ap (λ (t : List ℕ). length (front ++ t)) (ap (λ (t : List ℕ). s ++ t) none ∙ append-nil s) ∙ length-append front s)
@@ -103,7 +106,7 @@ module _ (f : Format) (front s behind : List ℕ) (at number : ℕ) (o : List �
   unfolding read_next
   same_next h =
       pick-moved (ltb most_records number) (by (read_case f s at) s k) (by (read_case f (front ++ (s ++ behind)) (k + at)) (front ++ (s ++ behind)) 0)
-      (ap (λ (x : CaseAnswer). by x (front ++ (s ++ behind)) 0) (same_case h) ∙ moved_by (read_case f s at) (front ++ (s ++ behind)) (same_end h))
+      (ap (λ (x : Result (Got Case) CaseError). by x (front ++ (s ++ behind)) 0) (same_case h) ∙ moved_by (read_case f s at) (front ++ (s ++ behind)) (same_end h))
 
   -- what the program does with a window is what it would do with the whole file at hand
   pub window-turn : (w : Answering) (l : Lists) → Holds

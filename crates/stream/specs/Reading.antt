@@ -1,9 +1,10 @@
 -- The next record of a case file that is read through a window, or the turn that comes in its place (document 01, "Case file and vote"); and a turn by what a program makes of a record. Any format.
 -- Definitions only.
-use Rattle.std.specs.Prelude.{List, ℕ, cond, ltb}
+use Rattle.std.specs.Prelude.{List, ℕ, cond, ltb, Result, Ok, Err}
 use Rattle.std.specs.Float.{Format}
 use Rattle.casefile.specs.declared.records.Case.{Case}
-use Rattle.casefile.specs.declared.records.CaseAnswer.{CaseAnswer}
+use Rattle.casefile.specs.declared.records.CaseError.{CaseError}
+use Rattle.casefile.specs.declared.numbers.Got.{Got}
 use Rattle.casefile.specs.Records.{read_case, case_value}
 use Rattle.lines.specs.Text.{After, place_of}
 use Rattle.lines.specs.Lines.{bad_line}
@@ -11,7 +12,6 @@ use Rattle.epa_polytope.specs.Stores.{Lists}
 use Rattle.epa.specs.Final.{Final, final, answered}
 use Rattle.window.specs.declared.Turn.{Turn}
 use Rattle.window.specs.Window.{offset_of, line_turn, bad_turn}
-use Rattle.stream.specs.declared.Next.{Next}
 
 -- what a turn answers, and the output that it leaves
 pub record Told : Type 0 where
@@ -31,20 +31,19 @@ bad_told x = told (bad_turn x.answer) x.bytes
 
 -- what reading comes to, and the output that it leaves
 pub record Read : Type 0 where
-  pub next : Next
+  pub next : Result (Got Case) Turn
   pub out : List ℕ
 
-abbrev pub read : Next → List ℕ → Read
+abbrev pub read : Result (Got Case) Turn → List ℕ → Read
 read n o = record { next = n; out = o }
 
 abbrev pub over : Told → Read
-over x = read (Next.Over x.turn) x.out
+over x = read (Err x.turn) x.out
 
 -- a record, with the output as it is; in its place, of refusal 4, the offset of a malformed number, or of the window's end where it ends inside the record
-abbrev pub read_by : CaseAnswer → List ℕ → ℕ → List ℕ → ℕ → Read
-read_by (CaseAnswer.Whole c next) s base o place = read (Next.Whole c next) o
-read_by (CaseAnswer.Malformed b) s base o place = over (bad_told (place_of o place (bad_line (offset_of base (case_value s (CaseAnswer.Malformed b))))))
-read_by CaseAnswer.Ended s base o place = over (bad_told (place_of o place (bad_line (offset_of base (case_value s CaseAnswer.Ended)))))
+abbrev pub read_by : Result (Got Case) CaseError → List ℕ → ℕ → List ℕ → ℕ → Read
+read_by (Ok g) s base o place = read (Ok g) o
+read_by (Err e) s base o place = over (bad_told (place_of o place (bad_line (offset_of base (case_value s (Err e))))))
 
 -- after so many records a run stops as at the file's end
 abbrev pub most_records : ℕ
@@ -60,9 +59,9 @@ read_next f s at base number o place = cond (ltb most_records number) (over (tol
 abbrev pub Answering : Type 0
 Answering = List ℕ → Case → Lists → Final After
 
-abbrev pub turn_at : Answering → Next → List ℕ → Lists → Final Told
-turn_at w (Next.Whole c next) o l = answered (line_told next) (w o c l)
-turn_at w (Next.Over t) o l = final (told t o) l
+abbrev pub turn_at : Answering → Result (Got Case) Turn → List ℕ → Lists → Final Told
+turn_at w (Ok g) o l = answered (line_told g.next) (w o g.value l)
+turn_at w (Err t) o l = final (told t o) l
 
 abbrev pub turn_by : Answering → Read → Lists → Final Told
 turn_by w x l = turn_at w x.next x.out l

@@ -1,20 +1,18 @@
 -- The projection of a point on a tetrahedron, taken as solid, of any format f: src/query/point/point_tetrahedron.rs, with the tests in its order, the first that holds answers,
 -- one rounding each. Definitions only.
-use Rattle.std.specs.Prelude.{ℕ, cond, ◌&&◌, Float}
+use Rattle.std.specs.Prelude.{ℕ, cond, ◌&&◌, Float, Option, Some, None, Result, Ok, Err}
 use Rattle.std.specs.Float.{Format}
 use Rattle.std.specs.Float.Ieee.{lt, le, ne, eq}
 use Rattle.vector.specs.declared.vec3.Vec3.{Vec3}
-use Rattle.vector.specs.declared.vec3.MaybeVec3.{MaybeVec3}
 use Rattle.vector.specs.Vector.{zero_f, one_f, zero_v, neg_v, add_v, sub_v, scale_v, dot_v, cross_v, try_normalize_v, ◌⊕◌, ◌⊖◌, ◌⊗◌, ◌⊘◌}
 use Rattle.projection.specs.Signs.{at_least_zero, at_most_zero}
 use Rattle.projection.specs.Values.{Values}
 use Rattle.tetrahedron.specs.declared.Tetrahedron.{Tetrahedron}
 use Rattle.tetrahedron.specs.declared.TetrahedronPointLocation.{TetrahedronPointLocation}
 use Rattle.tetrahedron.specs.declared.TetrahedronPointLocation.TheVariants.{OnVertex, OnEdge, OnFace, OnSolid}
-use Rattle.tetrahedron.specs.declared.TetrahedronProjection.{TetrahedronProjection}
-use Rattle.tetrahedron.specs.declared.TetrahedronProjection.TheVariants.{At, Refused}
-use Rattle.tetrahedron.specs.declared.locals.MaybeProjection.{MaybeProjection}
-use Rattle.tetrahedron.specs.declared.locals.MaybeProjection.TheVariants.{Some, None}
+use Rattle.projection.specs.declared.point_query.Projection.{Projection}
+use Rattle.refusal.specs.declared.WouldPanic.{WouldPanic}
+use Rattle.refusal.specs.Refusal.{would_panic, number_or_panic}
 use Rattle.tetrahedron.specs.declared.locals.Differences.{Differences}
 use Rattle.tetrahedron.specs.declared.locals.Dots.{Dots}
 use Rattle.tetrahedron.specs.declared.locals.Normals.{Normals}
@@ -22,25 +20,36 @@ use Rattle.tetrahedron.specs.declared.locals.EdgeCheck.{EdgeCheck}
 use Rattle.tetrahedron.specs.declared.locals.Edges.{Edges}
 use Rattle.tetrahedron.specs.declared.locals.Sides.{Sides}
 
+-- a point of a tetrahedron, and where on it the point lies
+abbrev pub TetrahedronProjection : Type 0
+TetrahedronProjection = Projection TetrahedronPointLocation
+
 -- `if let Some(res) = res { return res; }`, and what follows
-infixr 50 ◌or_else◌
-unfoldable pub ◌or_else◌ : MaybeProjection → MaybeProjection → MaybeProjection
+infixl 50 ◌or_else◌
+abbrev pub ◌or_else◌ : {P : Type 0} → Option P → Option P → Option P
 Some found or_else other = Some found
 None or_else other = other
 
--- ---- the Voronoi regions of the corners
-unfoldable pub on_vertex : ℕ → Vec3 → MaybeProjection
-on_vertex i corner = Some (At corner (OnVertex i))
+-- the same of a search that may be refused, which ends it too
+infixl 50 ◌or_next◌
+abbrev pub ◌or_next◌ : {P : Type 0} → Result (Option P) WouldPanic → Result (Option P) WouldPanic → Result (Option P) WouldPanic
+Ok (Some found) or_next other = Ok (Some found)
+Ok None or_next other = other
+Err e or_next other = Err e
 
-unfoldable pub vertex_region : Tetrahedron → Dots → MaybeProjection
+-- ---- the Voronoi regions of the corners
+unfoldable pub on_vertex : ℕ → Vec3 → TetrahedronProjection
+on_vertex i corner = record { point = corner; location = OnVertex i }
+
+unfoldable pub vertex_region : Tetrahedron → Dots → Option TetrahedronProjection
 vertex_region t k =
-    cond (at_most_zero k.ap_ab && at_most_zero k.ap_ac && at_most_zero k.ap_ad) (on_vertex 0 t.a)
-    (cond (at_most_zero k.bp_bc && at_most_zero k.bp_bd && at_least_zero k.bp_ab) (on_vertex 1 t.b)
-    (cond (at_most_zero k.cp_cd && at_least_zero k.cp_bc && at_least_zero k.cp_ac) (on_vertex 2 t.c)
-    (cond (at_least_zero k.dp_ad && at_least_zero k.dp_bd && at_least_zero k.dp_cd) (on_vertex 3 t.d) None)))
+    cond (at_most_zero k.ap_ab && at_most_zero k.ap_ac && at_most_zero k.ap_ad) (Some (on_vertex 0 t.a))
+    (cond (at_most_zero k.bp_bc && at_most_zero k.bp_bd && at_least_zero k.bp_ab) (Some (on_vertex 1 t.b))
+    (cond (at_most_zero k.cp_cd && at_least_zero k.cp_bc && at_least_zero k.cp_ac) (Some (on_vertex 2 t.c))
+    (cond (at_least_zero k.dp_ad && at_least_zero k.dp_bd && at_least_zero k.dp_cd) (Some (on_vertex 3 t.d)) None)))
 
 -- ---- what the six calls of `check_edge` give: the first that finds something, and the numbers, under the Rust's names
-unfoldable pub first_edge : Edges → MaybeProjection
+unfoldable pub first_edge : Edges → Option TetrahedronProjection
 first_edge e = e.ab.res or_else e.ac.res or_else e.ad.res or_else e.bc.res or_else e.bd.res or_else e.cd.res
 
 unfoldable pub sides : Edges → Sides
@@ -60,10 +69,16 @@ sides e =
       dcdb = e.cd.dabd;
     }
 
+-- what a search finds with this projection
+abbrev pub found : Result TetrahedronProjection WouldPanic → Result (Option TetrahedronProjection) WouldPanic
+found (Ok p) = Ok (Some p)
+found (Err e) = Err e
+
 -- what was found, or else solid: the point itself
-unfoldable pub or_solid : MaybeProjection → Vec3 → TetrahedronProjection
-or_solid (Some found) pt = found
-or_solid None pt = At pt OnSolid
+unfoldable pub or_solid : Result (Option TetrahedronProjection) WouldPanic → Vec3 → Result TetrahedronProjection WouldPanic
+or_solid (Ok (Some found)) pt = Ok found
+or_solid (Ok None) pt = Ok (record { point = pt; location = OnSolid })
+or_solid (Err e) pt = Err e
 
 module _ (f : Format) where
   -- ---- the Rust's locals
@@ -109,8 +124,8 @@ module _ (f : Format) where
       }
 
   -- ---- `check_edge`
-  unfoldable pub on_edge : ℕ → Vec3 → Vec3 → Float → MaybeProjection
-  on_edge i a ab u = Some (At (add_v f a (scale_v f ab u)) (OnEdge i (◌⊖◌ f one_f u) u))
+  unfoldable pub on_edge : ℕ → Vec3 → Vec3 → Float → TetrahedronProjection
+  on_edge i a ab u = record { point = add_v f a (scale_v f ab u); location = OnEdge i (◌⊖◌ f one_f u) u }
 
   -- the Rust's third parameter, the edge's other end, is read by nothing and left out
   unfoldable pub check_edge : ℕ → Vec3 → Vec3 → Vec3 → Vec3 → Vec3 → Float → Float → EdgeCheck
@@ -120,7 +135,7 @@ module _ (f : Format) where
       let dabc = dot_v f ap_x_ab nabc in
       let dabd = dot_v f ap_x_ab nabd in
       cond (ne ab_ab zero_f && at_least_zero dabc && at_least_zero dabd && at_least_zero ap_ab && le ap_ab ab_ab)
-      (record { dabc = dabc; dabd = dabd; res = on_edge i a ab (◌⊘◌ f ap_ab ab_ab) })
+      (record { dabc = dabc; dabd = dabd; res = Some (on_edge i a ab (◌⊘◌ f ap_ab ab_ab)) })
       (record { dabc = dabc; dabd = dabd; res = None })
 
   -- its six calls
@@ -138,60 +153,59 @@ module _ (f : Format) where
 
   -- ---- `check_face`
   -- from `let denom` on; `assert!(denom != 0.0)` is the refusal
-  unfoldable pub on_face : ℕ → Vec3 → Vec3 → Vec3 → Float → Float → Float → TetrahedronProjection
+  unfoldable pub on_face : ℕ → Vec3 → Vec3 → Vec3 → Float → Float → Float → Result TetrahedronProjection WouldPanic
   on_face i a b c va vb vc =
       let denom = ◌⊕◌ f (◌⊕◌ f va vb) vc in
       let inv_denom = ◌⊘◌ f one_f denom in
       let b0 = ◌⊗◌ f va inv_denom in
       let b1 = ◌⊗◌ f vb inv_denom in
       let b2 = ◌⊗◌ f vc inv_denom in
-      cond (eq denom zero_f) Refused
-      (At (add_v f (add_v f (scale_v f a b0) (scale_v f b b1)) (scale_v f c b2)) (OnFace i b0 b1 b2))
+      cond (eq denom zero_f) (Err would_panic)
+      (Ok (record { point = add_v f (add_v f (scale_v f a b0) (scale_v f b b1)) (scale_v f c b2); location = OnFace i b0 b1 b2 }))
 
   -- past `n.try_normalize()?`
-  unfoldable pub by_normal : ℕ → Vec3 → Vec3 → Vec3 → Vec3 → Vec3 → Vec3 → MaybeVec3 → MaybeProjection
-  by_normal i a b c ap bp cp (MaybeVec3.Some normal) =
+  unfoldable pub by_normal : ℕ → Vec3 → Vec3 → Vec3 → Vec3 → Vec3 → Vec3 → Option Vec3 → Result (Option TetrahedronProjection) WouldPanic
+  by_normal i a b c ap bp cp (Some normal) =
       let vc = dot_v f normal (cross_v f ap bp) in
       let va = dot_v f normal (cross_v f bp cp) in
       let vb = dot_v f normal (cross_v f cp ap) in
-      Some (on_face i a b c va vb vc)
-  by_normal i a b c ap bp cp MaybeVec3.None = None
+      found (on_face i a b c va vb vc)
+  by_normal i a b c ap bp cp None = Ok None
 
-  unfoldable pub check_face : ℕ → Vec3 → Vec3 → Vec3 → Vec3 → Vec3 → Vec3 → Vec3 → Vec3 → Vec3 → Float → Float → Float → MaybeProjection
+  unfoldable pub check_face : ℕ → Vec3 → Vec3 → Vec3 → Vec3 → Vec3 → Vec3 → Vec3 → Vec3 → Vec3 → Float → Float → Float → Result (Option TetrahedronProjection) WouldPanic
   check_face i a b c ap bp cp ab ac ad dabc dbca dacb =
       let n = cross_v f ab ac in
       cond (lt dabc zero_f && lt dbca zero_f && lt dacb zero_f)
-      (cond (lt (◌⊗◌ f (dot_v f n ad) (dot_v f n ap)) zero_f) (by_normal i a b c ap bp cp (try_normalize_v f n)) None) None
+      (cond (lt (◌⊗◌ f (dot_v f n ad) (dot_v f n ap)) zero_f) (by_normal i a b c ap bp cp (try_normalize_v f n)) (Ok None)) (Ok None)
 
   -- its four calls
-  unfoldable pub face_abc : Tetrahedron → Differences → Sides → MaybeProjection
+  unfoldable pub face_abc : Tetrahedron → Differences → Sides → Result (Option TetrahedronProjection) WouldPanic
   face_abc t v s = check_face 0 t.a t.b t.c v.ap v.bp v.cp v.ab v.ac v.ad s.dabc s.dbca s.dacb
 
-  unfoldable pub face_abd : Tetrahedron → Differences → Sides → MaybeProjection
+  unfoldable pub face_abd : Tetrahedron → Differences → Sides → Result (Option TetrahedronProjection) WouldPanic
   face_abd t v s = check_face 1 t.a t.b t.d v.ap v.bp v.dp v.ab v.ad v.ac s.dadb s.dabd s.dbda
 
-  unfoldable pub face_acd : Tetrahedron → Differences → Sides → MaybeProjection
+  unfoldable pub face_acd : Tetrahedron → Differences → Sides → Result (Option TetrahedronProjection) WouldPanic
   face_acd t v s = check_face 2 t.a t.c t.d v.ap v.cp v.dp v.ac v.ad v.ab s.dacd s.dcda s.dadc
 
-  unfoldable pub face_bcd : Tetrahedron → Differences → Sides → MaybeProjection
+  unfoldable pub face_bcd : Tetrahedron → Differences → Sides → Result (Option TetrahedronProjection) WouldPanic
   face_bcd t v s = check_face 3 t.b t.c t.d v.bp v.cp v.dp v.bc v.bd (neg_v v.ab) s.dbcd s.dcdb s.dbdc
 
-  unfoldable pub check_faces : Tetrahedron → Differences → Sides → MaybeProjection
-  check_faces t v s = face_abc t v s or_else face_abd t v s or_else face_acd t v s or_else face_bcd t v s
+  unfoldable pub check_faces : Tetrahedron → Differences → Sides → Result (Option TetrahedronProjection) WouldPanic
+  check_faces t v s = face_abc t v s or_next face_abd t v s or_next face_acd t v s or_next face_bcd t v s
 
   -- ---- `project_local_point_and_get_location`
-  unfoldable pub project_tetrahedron : Tetrahedron → Vec3 → TetrahedronProjection
+  unfoldable pub project_tetrahedron : Tetrahedron → Vec3 → Result TetrahedronProjection WouldPanic
   project_tetrahedron t pt =
       let v = differences t pt in
       let k = dots v in
       let e = check_edges t v k in
-      or_solid (vertex_region t k or_else first_edge e or_else check_faces t v (sides e)) pt
+      or_solid (Ok (vertex_region t k or_else first_edge e) or_next check_faces t v (sides e)) pt
 
 -- ---- document 01's number of a projection, 0 or refusal 2, and its values: point and location, and zeros for the refusal, the corner 0 being the location of zeros
-unfoldable pub tetrahedron_number : TetrahedronProjection → ℕ
-tetrahedron_number (At p l) = 0
-tetrahedron_number Refused = 2
+unfoldable pub tetrahedron_number : Result TetrahedronProjection WouldPanic → ℕ
+tetrahedron_number r = number_or_panic r
 
-unfoldable pub tetrahedron_values : TetrahedronProjection → Values TetrahedronPointLocation
-tetrahedron_values (At p l) = record { point = p; location = l }
-tetrahedron_values Refused = record { point = zero_v; location = OnVertex 0 }
+unfoldable pub tetrahedron_values : Result TetrahedronProjection WouldPanic → Values TetrahedronPointLocation
+tetrahedron_values (Ok p) = record { point = p.point; location = p.location }
+tetrahedron_values (Err e) = record { point = zero_v; location = OnVertex 0 }

@@ -1,6 +1,6 @@
 // The projection of a point on a tetrahedron, taken as solid, and where on it the projection lies (point_tetrahedron.rs).
 // The tests stand in the Rust's order, and the first that holds answers.
-#![tactic(auto)]
+#![tactic(auto, unfolding(crate::specs::Tetrahedron::project_tetrahedron, crate::specs::Tetrahedron::or_solid, crate::specs::Tetrahedron::differences, crate::specs::Tetrahedron::vertex_region, crate::specs::Tetrahedron::check_edges, crate::specs::Tetrahedron::check_faces, crate::specs::Tetrahedron::face_abc, crate::specs::Tetrahedron::face_abd, crate::specs::Tetrahedron::face_acd, crate::specs::Tetrahedron::face_bcd, crate::specs::Tetrahedron::on_vertex, crate::specs::Tetrahedron::check_edge, crate::specs::Tetrahedron::on_edge, crate::specs::Tetrahedron::check_face, crate::specs::Tetrahedron::by_normal, crate::specs::Tetrahedron::on_face))]
 
 ghost use Rattle.std.specs.Prelude.{◌≡◌};
 ghost use Rattle.std.specs.Float.{binary32};
@@ -12,8 +12,10 @@ ghost use Rattle.tetrahedron.specs.Tetrahedron.{on_face, check_face, face_abc, f
 // The Rust's locals, as types.
 mod locals;
 
-use locals::{Differences, Dots, EdgeCheck, Edges, MaybeProjection, Sides};
-use vector::{MaybeVec3, Vec3};
+use locals::{Differences, Dots, EdgeCheck, Edges, Sides};
+use projection::Projection;
+use refusal::WouldPanic;
+use vector::Vec3;
 
 #[repr(C)]
 #[derive(Clone, Copy)]
@@ -34,70 +36,69 @@ pub enum TetrahedronPointLocation {
     OnSolid,
 }
 
-// The projection and its location, or a refusal where the Rust asserts.
-#[derive(Clone, Copy)]
-pub enum TetrahedronProjection {
-    At(Vec3, TetrahedronPointLocation),
-    Refused,
-}
+pub type TetrahedronProjection = Projection<TetrahedronPointLocation>;
 
 impl Tetrahedron {
-    pub fn project_local_point_and_get_location(self, pt: Vec3) -> TetrahedronProjection
+    // Refused where the Rust asserts.
+    pub fn project_local_point_and_get_location(
+        self,
+        pt: Vec3,
+    ) -> Result<TetrahedronProjection, WouldPanic>
         ensures answer { result ≡ project_tetrahedron binary32 self pt }
         ensures told { Told tetrahedron_number tetrahedron_values result (project_tetrahedron binary32 self pt) }
     {
         let v = self.differences(pt);
         let k = v.dots();
-        let res = self.vertex_region(k);
-        if let MaybeProjection::Some(found) = res {
-            return found;
+        if let Some(found) = self.vertex_region(k) {
+            return Ok(found);
         }
         let e = self.check_edges(v, k);
-        let res = e.first();
-        if let MaybeProjection::Some(found) = res {
-            return found;
+        if let Some(found) = e.first() {
+            return Ok(found);
         }
-        let res = self.check_faces(v, e.sides());
-        if let MaybeProjection::Some(found) = res {
-            return found;
+        if let Some(found) = self.check_faces(v, e.sides())? {
+            return Ok(found);
         }
-        TetrahedronProjection::At(pt, TetrahedronPointLocation::OnSolid)
+        Ok(Projection {
+            point: pt,
+            location: TetrahedronPointLocation::OnSolid,
+        })
     }
 
     fn differences(self, pt: Vec3) -> Differences
         ensures { result ≡ differences binary32 self pt }
     {
         Differences {
-            ab: self.b.sub(self.a),
-            ac: self.c.sub(self.a),
-            ad: self.d.sub(self.a),
-            ap: pt.sub(self.a),
-            bc: self.c.sub(self.b),
-            bd: self.d.sub(self.b),
-            bp: pt.sub(self.b),
-            cd: self.d.sub(self.c),
-            cp: pt.sub(self.c),
-            dp: pt.sub(self.d),
+            ab: self.b - self.a,
+            ac: self.c - self.a,
+            ad: self.d - self.a,
+            ap: pt - self.a,
+            bc: self.c - self.b,
+            bd: self.d - self.b,
+            bp: pt - self.b,
+            cd: self.d - self.c,
+            cp: pt - self.c,
+            dp: pt - self.d,
         }
     }
 
-    // The Voronoi regions of the corners.
-    fn vertex_region(self, k: Dots) -> MaybeProjection
+    // The Voronoi regions of the corners: the corner whose region holds the point.
+    fn vertex_region(self, k: Dots) -> Option<TetrahedronProjection>
         ensures { result ≡ vertex_region self k }
     {
-        if (k.ap_ab <= 0.0) & (k.ap_ac <= 0.0) & (k.ap_ad <= 0.0) {
-            return on_vertex(0, self.a);
+        if k.ap_ab <= 0.0 && k.ap_ac <= 0.0 && k.ap_ad <= 0.0 {
+            return Some(on_vertex(0, self.a));
         }
-        if (k.bp_bc <= 0.0) & (k.bp_bd <= 0.0) & (k.bp_ab >= 0.0) {
-            return on_vertex(1, self.b);
+        if k.bp_bc <= 0.0 && k.bp_bd <= 0.0 && k.bp_ab >= 0.0 {
+            return Some(on_vertex(1, self.b));
         }
-        if (k.cp_cd <= 0.0) & (k.cp_bc >= 0.0) & (k.cp_ac >= 0.0) {
-            return on_vertex(2, self.c);
+        if k.cp_cd <= 0.0 && k.cp_bc >= 0.0 && k.cp_ac >= 0.0 {
+            return Some(on_vertex(2, self.c));
         }
-        if (k.dp_ad >= 0.0) & (k.dp_bd >= 0.0) & (k.dp_cd >= 0.0) {
-            return on_vertex(3, self.d);
+        if k.dp_ad >= 0.0 && k.dp_bd >= 0.0 && k.dp_cd >= 0.0 {
+            return Some(on_vertex(3, self.d));
         }
-        MaybeProjection::None
+        None
     }
 
     // The six calls of `check_edge`. Each also gives two numbers that the faces' tests read.
@@ -105,10 +106,10 @@ impl Tetrahedron {
         ensures { result ≡ check_edges binary32 self v k }
     {
         let n = v.normals();
-        let mabc = n.abc.neg();
-        let mabd = n.abd.neg();
-        let macd = n.acd.neg();
-        let mbcd = n.bcd.neg();
+        let mabc = -n.abc;
+        let mabd = -n.abd;
+        let macd = -n.acd;
+        let mbcd = -n.bcd;
         let ab = check_edge(0, self.a, n.abc, n.abd, v.ap, v.ab, k.ap_ab, k.bp_ab);
         let ac = check_edge(1, self.a, n.acd, mabc, v.ap, v.ac, k.ap_ac, k.cp_ac);
         let ad = check_edge(2, self.a, mabd, macd, v.ap, v.ad, k.ap_ad, k.dp_ad);
@@ -126,25 +127,26 @@ impl Tetrahedron {
     }
 
     // The four calls of `check_face`, up to the first that finds something.
-    fn check_faces(self, v: Differences, s: Sides) -> MaybeProjection
+    fn check_faces(
+        self,
+        v: Differences,
+        s: Sides,
+    ) -> Result<Option<TetrahedronProjection>, WouldPanic>
         ensures { result ≡ check_faces binary32 self v s }
     {
-        let res = self.face_abc(v, s);
-        if let MaybeProjection::Some(found) = res {
-            return MaybeProjection::Some(found);
+        if let Some(found) = self.face_abc(v, s)? {
+            return Ok(Some(found));
         }
-        let res = self.face_abd(v, s);
-        if let MaybeProjection::Some(found) = res {
-            return MaybeProjection::Some(found);
+        if let Some(found) = self.face_abd(v, s)? {
+            return Ok(Some(found));
         }
-        let res = self.face_acd(v, s);
-        if let MaybeProjection::Some(found) = res {
-            return MaybeProjection::Some(found);
+        if let Some(found) = self.face_acd(v, s)? {
+            return Ok(Some(found));
         }
         self.face_bcd(v, s)
     }
 
-    fn face_abc(self, v: Differences, s: Sides) -> MaybeProjection
+    fn face_abc(self, v: Differences, s: Sides) -> Result<Option<TetrahedronProjection>, WouldPanic>
         ensures { result ≡ face_abc binary32 self v s }
     {
         check_face(
@@ -152,7 +154,7 @@ impl Tetrahedron {
         )
     }
 
-    fn face_abd(self, v: Differences, s: Sides) -> MaybeProjection
+    fn face_abd(self, v: Differences, s: Sides) -> Result<Option<TetrahedronProjection>, WouldPanic>
         ensures { result ≡ face_abd binary32 self v s }
     {
         check_face(
@@ -160,7 +162,7 @@ impl Tetrahedron {
         )
     }
 
-    fn face_acd(self, v: Differences, s: Sides) -> MaybeProjection
+    fn face_acd(self, v: Differences, s: Sides) -> Result<Option<TetrahedronProjection>, WouldPanic>
         ensures { result ≡ face_acd binary32 self v s }
     {
         check_face(
@@ -168,22 +170,26 @@ impl Tetrahedron {
         )
     }
 
-    fn face_bcd(self, v: Differences, s: Sides) -> MaybeProjection
+    fn face_bcd(self, v: Differences, s: Sides) -> Result<Option<TetrahedronProjection>, WouldPanic>
         ensures { result ≡ face_bcd binary32 self v s }
     {
-        let ba = v.ab.neg();
+        let ba = -v.ab;
         check_face(
             3, self.b, self.c, self.d, v.bp, v.cp, v.dp, v.bc, v.bd, ba, s.dbcd, s.dcdb, s.dbdc,
         )
     }
 }
 
-fn on_vertex(i: u32, corner: Vec3) -> MaybeProjection
+fn on_vertex(i: u32, corner: Vec3) -> TetrahedronProjection
     ensures { result ≡ on_vertex i corner }
 {
-    MaybeProjection::Some(TetrahedronProjection::At(corner, TetrahedronPointLocation::OnVertex(i)))
+    Projection {
+        point: corner,
+        location: TetrahedronPointLocation::OnVertex(i),
+    }
 }
 
+// The Rust's parameters, but for one that it doesn't read.
 fn check_edge(
     i: u32,
     a: Vec3,
@@ -200,29 +206,29 @@ fn check_edge(
     let ap_x_ab = ap.cross(ab);
     let dabc = ap_x_ab.dot(nabc);
     let dabd = ap_x_ab.dot(nabd);
-    if (ab_ab != 0.0) & (dabc >= 0.0) & (dabd >= 0.0) & (ap_ab >= 0.0) & (ap_ab <= ab_ab) {
-        let res = on_edge(i, a, ab, ap_ab / ab_ab);
+    if ab_ab != 0.0 && dabc >= 0.0 && dabd >= 0.0 && ap_ab >= 0.0 && ap_ab <= ab_ab {
+        let res = Some(on_edge(i, a, ab, ap_ab / ab_ab));
         EdgeCheck { dabc, dabd, res }
     } else {
         EdgeCheck {
             dabc,
             dabd,
-            res: MaybeProjection::None,
+            res: None,
         }
     }
 }
 
 // The point a + ab * u of the edge i.
-fn on_edge(i: u32, a: Vec3, ab: Vec3, u: f32) -> MaybeProjection
+fn on_edge(i: u32, a: Vec3, ab: Vec3, u: f32) -> TetrahedronProjection
     ensures { result ≡ on_edge binary32 i a ab u }
 {
-    let res = a.add(ab.scale(u));
-    MaybeProjection::Some(TetrahedronProjection::At(
-        res,
-        TetrahedronPointLocation::OnEdge(i, 1.0 - u, u),
-    ))
+    Projection {
+        point: a + ab * u,
+        location: TetrahedronPointLocation::OnEdge(i, 1.0 - u, u),
+    }
 }
 
+// The Rust's parameters.
 fn check_face(
     i: u32,
     a: Vec3,
@@ -237,36 +243,46 @@ fn check_face(
     dabc: f32,
     dbca: f32,
     dacb: f32,
-) -> MaybeProjection
+) -> Result<Option<TetrahedronProjection>, WouldPanic>
     ensures { result ≡ check_face binary32 i a b c ap bp cp ab ac ad dabc dbca dacb }
 {
-    if (dabc < 0.0) & (dbca < 0.0) & (dacb < 0.0) {
+    if dabc < 0.0 && dbca < 0.0 && dacb < 0.0 {
         let n = ab.cross(ac);
         if n.dot(ad) * n.dot(ap) < 0.0 {
-            let MaybeVec3::Some(normal) = n.try_normalize() else {
-                return MaybeProjection::None;
+            let Some(normal) = n.try_normalize() else {
+                return Ok(None);
             };
             let vc = normal.dot(ap.cross(bp));
             let va = normal.dot(bp.cross(cp));
             let vb = normal.dot(cp.cross(ap));
-            return MaybeProjection::Some(on_face(i, a, b, c, va, vb, vc));
+            return Ok(Some(on_face(i, a, b, c, va, vb, vc)?));
         }
     }
-    MaybeProjection::None
+    Ok(None)
 }
 
 // The point of the face i by its weights; refused where their sum is zero.
-fn on_face(i: u32, a: Vec3, b: Vec3, c: Vec3, va: f32, vb: f32, vc: f32) -> TetrahedronProjection
+fn on_face(
+    i: u32,
+    a: Vec3,
+    b: Vec3,
+    c: Vec3,
+    va: f32,
+    vb: f32,
+    vc: f32,
+) -> Result<TetrahedronProjection, WouldPanic>
     ensures { result ≡ on_face binary32 i a b c va vb vc }
 {
     let denom = va + vb + vc;
     if denom == 0.0 {
-        return TetrahedronProjection::Refused;
+        return Err(WouldPanic);
     }
     let inv_denom = 1.0 / denom;
     let b0 = va * inv_denom;
     let b1 = vb * inv_denom;
     let b2 = vc * inv_denom;
-    let res = a.scale(b0).add(b.scale(b1)).add(c.scale(b2));
-    TetrahedronProjection::At(res, TetrahedronPointLocation::OnFace(i, b0, b1, b2))
+    Ok(Projection {
+        point: a * b0 + b * b1 + c * b2,
+        location: TetrahedronPointLocation::OnFace(i, b0, b1, b2),
+    })
 }

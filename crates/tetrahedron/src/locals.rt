@@ -1,17 +1,12 @@
 // The Rust's locals of `project_local_point_and_get_location` (point_tetrahedron.rs) as types of their own, since a function here hands them on to the next.
+#![tactic(auto, unfolding(crate::specs::Tetrahedron::dots, crate::specs::Tetrahedron::normals, crate::specs::Tetrahedron::first_edge, crate::specs::Tetrahedron::sides))]
+
 ghost use Rattle.std.specs.Prelude.{◌≡◌};
 ghost use Rattle.std.specs.Float.{binary32};
-ghost use Rattle.tetrahedron.specs.Tetrahedron.{dots, normals, ◌or_else◌, first_edge, sides};
+ghost use Rattle.tetrahedron.specs.Tetrahedron.{dots, normals, first_edge, sides};
 
 use crate::TetrahedronProjection;
 use vector::Vec3;
-
-// The Rust's `Option<(PointProjection, TetrahedronPointLocation)>`; a refusal stands in `Some`, since it ends the search too.
-#[derive(Clone, Copy)]
-pub enum MaybeProjection {
-    Some(TetrahedronProjection),
-    None,
-}
 
 // The Rust's locals: the edges, and the way to `pt` from each corner.
 #[derive(Clone, Copy)]
@@ -59,7 +54,7 @@ pub struct Normals {
 pub struct EdgeCheck {
     pub dabc: f32,
     pub dabd: f32,
-    pub res: MaybeProjection,
+    pub res: Option<TetrahedronProjection>,
 }
 
 // What the six calls of `check_edge` return.
@@ -124,22 +119,11 @@ impl Differences {
 
 impl Edges {
     // The first edge whose region holds the point.
-    pub fn first(self) -> MaybeProjection
+    pub fn first(self) -> Option<TetrahedronProjection>
         ensures { result ≡ first_edge self }
     {
-        let ab = self.ab;
-        let ac = self.ac;
-        let ad = self.ad;
-        let bc = self.bc;
-        let bd = self.bd;
-        let cd = self.cd;
-        let ab_res = ab.res;
-        let ac_res = ac.res;
-        let ad_res = ad.res;
-        let bc_res = bc.res;
-        let bd_res = bd.res;
-        let cd_res = cd.res;
-        ab_res.or(ac_res.or(ad_res.or(bc_res.or(bd_res.or(cd_res)))))
+        let first = self.ab.res.or(self.ac.res).or(self.ad.res);
+        first.or(self.bc.res).or(self.bd.res).or(self.cd.res)
     }
 
     // The numbers under the names that the Rust gives them.
@@ -159,18 +143,6 @@ impl Edges {
             dbda: self.bd.dabd,
             dcda: self.cd.dabc,
             dcdb: self.cd.dabd,
-        }
-    }
-}
-
-impl MaybeProjection {
-    // `Option::or`
-    pub fn or(self, other: MaybeProjection) -> MaybeProjection
-        ensures { result ≡ (self or_else other) }
-    {
-        match self {
-            MaybeProjection::Some(found) => MaybeProjection::Some(found),
-            MaybeProjection::None => other,
         }
     }
 }

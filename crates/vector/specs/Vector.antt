@@ -1,6 +1,6 @@
 -- Vectors of three numbers, of any format f: each operation in the order of the Rust's vector library, one rounding each, nothing fused. Definitions only.
 -- Carries glam's `Vec3` in its scalar form. Its text is not published with the crate's: docs/DECISIONS.md says what stands in for it.
-use Rattle.std.specs.Prelude.{Bool, false, cond, ◌&&◌, pos, Float}
+use Rattle.std.specs.Prelude.{Option, Some, None, Bool, false, cond, ◌&&◌, pos, Float}
 use Rattle.std.specs.Float.Ieee as Ieee
 use Rattle.std.specs.Float.{Format, fin}
 use Rattle.std.specs.Float.Ieee.{eq}
@@ -10,8 +10,6 @@ use Rattle.number.specs.Small.{gt}
 use Rattle.vector.specs.declared.vec3.Vec3.{Vec3}
 use Rattle.vector.specs.declared.vec3.Axis.{Axis}
 use Rattle.vector.specs.declared.vec3.Axis.TheVariants.{X, Y, Z}
-use Rattle.vector.specs.declared.vec3.MaybeVec3.{MaybeVec3}
-use Rattle.vector.specs.declared.vec3.MaybeVec3.TheVariants.{Some, None}
 use Rattle.vector.specs.declared.vec3.UnitAndLength.{UnitAndLength}
 
 -- The literals 0.0, 1.0 and 2.0, which are the same values in every format
@@ -123,7 +121,7 @@ module _ (f : Format) where
   normalize_v a = scale_v a (length_recip_v a)
 
   -- `a.try_normalize()`
-  unfoldable pub try_normalize_v : Vec3 → MaybeVec3
+  unfoldable pub try_normalize_v : Vec3 → Option Vec3
   try_normalize_v a = let r = length_recip_v a in cond (usable r) (Some (scale_v a r)) None
 
   -- `a.normalize_or(d)`

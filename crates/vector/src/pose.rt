@@ -51,10 +51,10 @@ impl Rotation {
     {
         let w = self.w;
         let b = self.axis();
-        let along = v.scale(w * w - b.dot(b));
-        let onto = b.scale(v.dot(b) * 2.0);
-        let across = b.cross(v).scale(w * 2.0);
-        along.add(onto).add(across)
+        let along = v * (w * w - b.dot(b));
+        let onto = b * (v.dot(b) * 2.0);
+        let across = b.cross(v) * (w * 2.0);
+        along + onto + across
     }
 }
 
@@ -64,7 +64,7 @@ impl Pose {
         ensures { result ≡ transform_point binary32 self point }
     {
         let rotation = self.rotation;
-        rotation.rotate(point).add(self.translation)
+        rotation.rotate(point) + self.translation
     }
 
     // A direction, turned back: the translation does not move it.

@@ -1,13 +1,13 @@
-// Vectors of three numbers (glam's `Vec3`).
+// Vectors of three numbers (glam's `Vec3`). `==` says whether each component compares equal (`equal_v` of specs/Vector.antt).
 ghost use Rattle.std.specs.Prelude.{◌≡◌};
 ghost use Rattle.std.specs.Float.{binary32};
-ghost use Rattle.vector.specs.Vector.{neg_v, add_v, sub_v, scale_v, div_v, dot_v, cross_v};
+ghost use Rattle.vector.specs.Vector.{dot_v, cross_v};
 ghost use Rattle.vector.specs.Vector.{length_squared_v, length_v, length_recip_v, usable};
 ghost use Rattle.vector.specs.Vector.{normalize_v, try_normalize_v, normalize_or_v, normalize_or_zero_v, normalize_and_length_v};
-ghost use Rattle.vector.specs.Vector.{vec3, component_v, with_component_v, equal_v};
+ghost use Rattle.vector.specs.Vector.{vec3, component_v, with_component_v};
 
 #[repr(C)]
-#[derive(Clone, Copy)]
+#[derive(Clone, Copy, PartialEq)]
 pub struct Vec3 {
     pub x: f32,
     pub y: f32,
@@ -20,13 +20,6 @@ pub enum Axis {
     X,
     Y,
     Z,
-}
-
-// The Rust's `Option<Vec3>`.
-#[derive(Clone, Copy)]
-pub enum MaybeVec3 {
-    Some(Vec3),
-    None,
 }
 
 // What `normalize_and_length` returns: the Rust's pair.
@@ -68,61 +61,6 @@ impl Vec3 {
         Vec3 { x, y, z }
     }
 
-    // `-self`
-    pub fn neg(self) -> Vec3
-        ensures { result ≡ neg_v self }
-    {
-        Vec3 {
-            x: -self.x,
-            y: -self.y,
-            z: -self.z,
-        }
-    }
-
-    // `self + other`
-    pub fn add(self, other: Vec3) -> Vec3
-        ensures { result ≡ add_v binary32 self other }
-    {
-        Vec3 {
-            x: self.x + other.x,
-            y: self.y + other.y,
-            z: self.z + other.z,
-        }
-    }
-
-    // `self - other`
-    pub fn sub(self, other: Vec3) -> Vec3
-        ensures { result ≡ sub_v binary32 self other }
-    {
-        Vec3 {
-            x: self.x - other.x,
-            y: self.y - other.y,
-            z: self.z - other.z,
-        }
-    }
-
-    // `self * number`
-    pub fn scale(self, number: f32) -> Vec3
-        ensures { result ≡ scale_v binary32 self number }
-    {
-        Vec3 {
-            x: self.x * number,
-            y: self.y * number,
-            z: self.z * number,
-        }
-    }
-
-    // `self / number`
-    pub fn div(self, number: f32) -> Vec3
-        ensures { result ≡ div_v binary32 self number }
-    {
-        Vec3 {
-            x: self.x / number,
-            y: self.y / number,
-            z: self.z / number,
-        }
-    }
-
     pub fn dot(self, other: Vec3) -> f32
         ensures { result ≡ dot_v binary32 self other }
     {
@@ -161,18 +99,18 @@ impl Vec3 {
     pub fn normalize(self) -> Vec3
         ensures { result ≡ normalize_v binary32 self }
     {
-        self.scale(self.length_recip())
+        self * self.length_recip()
     }
 
     // The same where `1 / length` is finite and above zero, and nothing elsewhere.
-    pub fn try_normalize(self) -> MaybeVec3
+    pub fn try_normalize(self) -> Option<Vec3>
         ensures { result ≡ try_normalize_v binary32 self }
     {
         let recip = self.length_recip();
         if is_usable(recip) {
-            MaybeVec3::Some(self.scale(recip))
+            Some(self * recip)
         } else {
-            MaybeVec3::None
+            None
         }
     }
 
@@ -182,7 +120,7 @@ impl Vec3 {
     {
         let recip = self.length_recip();
         if is_usable(recip) {
-            self.scale(recip)
+            self * recip
         } else {
             fallback
         }
@@ -202,7 +140,7 @@ impl Vec3 {
         let recip = 1.0 / length;
         if is_usable(recip) {
             UnitAndLength {
-                normalized: self.scale(recip),
+                normalized: self * recip,
                 length,
             }
         } else {
@@ -245,13 +183,6 @@ impl Vec3 {
                 z: number,
             },
         }
-    }
-
-    // `self == other`: each component compares equal.
-    pub fn equals(self, other: Vec3) -> bool
-        ensures { result ≡ equal_v self other }
-    {
-        (self.x == other.x) & (self.y == other.y) & (self.z == other.z)
     }
 }
 

@@ -10,11 +10,12 @@ use lib.IntN.{pos}
 use lib.Ieee.{Float, fin, Format, binary32, binary64, fits, to_bits, of_bits}
 use lib.Ieee.Bits.{of_bits-to_bits}
 use Rattle.vector.specs.declared.vec3.Vec3.{Vec3}
-use Rattle.vote.specs.declared.Counts.{Counts}
+use Rattle.std.specs.Prelude.{Result, Ok, Err}
+use Rattle.counts.specs.declared.Counts.{Counts}
 use Rattle.vote.specs.declared.Answer.{Answer}
-use Rattle.vote.specs.declared.Verdict.{Verdict}
-use Rattle.vote.specs.declared.Verdict.TheVariants.{Agreed, Refused}
-use Rattle.vote.specs.Vote.{same_bits, same_bits_v, same_counts, agree, vote_of, verdict_number}
+use Rattle.vote.specs.declared.Agreed.{Agreed}
+use Rattle.vote.specs.declared.NoAgreement.{NoAgreement}
+use Rattle.vote.specs.Vote.{same_bits, same_bits_v, same_counts, agree, agreed, no_agreement, vote_of, verdict_number}
 
 -- ---- agreement is an equivalence: it compares numbers, of each answer the same ones
 pub record Equivalence {A : Type 0} (t : A → A → Bool) : Type 0 where
@@ -81,12 +82,12 @@ zeros_differ binary64 = refl
 
 -- ---- the vote
 -- three equal answers are never voted apart, whatever they hold
-pub three-same : (f : Format) (a : Answer) → vote_of f a a a ≡ Agreed a 0
+pub three-same : (f : Format) (a : Answer) → vote_of f a a a ≡ Ok (agreed a 0)
 unfolding vote_of
 three-same f a = simp ((answers_agree f).same a)
 
 -- the odd channel is 0 where 1 agrees with both, and then 2 and 3 agree too
-pub no-odd : (f : Format) (a b c : Answer) → agree f a b ≡ true → agree f a c ≡ true → (vote_of f a b c ≡ Agreed a 0) × (agree f b c ≡ true)
+pub no-odd : (f : Format) (a b c : Answer) → agree f a b ≡ true → agree f a c ≡ true → (vote_of f a b c ≡ Ok (agreed a 0)) × (agree f b c ≡ true)
 unfolding vote_of
 no-odd f a b c h k =
     let e = answers_agree f in
@@ -98,8 +99,8 @@ pub record NoTwo (f : Format) (a b c : Answer) : Type 0 where
   pub first-third : agree f a c ≡ false
   pub second-third : agree f b c ≡ false
 
-abbrev decided : Bool → Bool → Bool → Answer → Answer → Verdict
-decided p q r a b = cond p (Agreed a (cond q 0 3)) (cond q (Agreed a 2) (cond r (Agreed b 1) Refused))
+abbrev decided : Bool → Bool → Bool → Answer → Answer → Result Agreed NoAgreement
+decided p q r a b = cond p (Ok (agreed a (cond q 0 3))) (cond q (Ok (agreed a 2)) (cond r (Ok (agreed b 1)) (Err no_agreement)))
 
 all-false : (p q r : Bool) (a b : Answer) → verdict_number (decided p q r a b) ≡ 5 → (p ≡ false) × (q ≡ false) × (r ≡ false)
 all-false true q r a b e = absurd (let z : ◌≡◌ {A = ℕ} 0 5 = e in omega arith)
@@ -116,19 +117,19 @@ module _ (f : Format) (a b c : Answer) where
       record { first-second = w.0; first-third = w.1; second-third = w.2 }
 
   -- and whenever no two agree
-  pub refused-whenever : NoTwo f a b c → vote_of f a b c ≡ Refused
+  pub refused-whenever : NoTwo f a b c → vote_of f a b c ≡ Err no_agreement
   unfolding vote_of
   refused-whenever n = simp (n.first-second, n.first-third, n.second-third)
 
   -- an answer is one that two channels agree on: of 1 and 2, else of 1 and 3, else of 2 and 3
-  pub first-second-give : agree f a b ≡ true → vote_of f a b c ≡ Agreed a (cond (agree f a c) 0 3)
+  pub first-second-give : agree f a b ≡ true → vote_of f a b c ≡ Ok (agreed a (cond (agree f a c) 0 3))
   unfolding vote_of
   first-second-give e = simp e
 
-  pub first-third-give : agree f a b ≡ false → agree f a c ≡ true → vote_of f a b c ≡ Agreed a 2
+  pub first-third-give : agree f a b ≡ false → agree f a c ≡ true → vote_of f a b c ≡ Ok (agreed a 2)
   unfolding vote_of
   first-third-give e g = simp (e, g)
 
-  pub second-third-give : agree f a b ≡ false → agree f a c ≡ false → agree f b c ≡ true → vote_of f a b c ≡ Agreed b 1
+  pub second-third-give : agree f a b ≡ false → agree f a c ≡ false → agree f b c ≡ true → vote_of f a b c ≡ Ok (agreed b 1)
   unfolding vote_of
   second-third-give e g h = simp (e, g, h)

@@ -1,13 +1,14 @@
 -- The vote of document 01, "Case file and vote", with agreement as document 02 has it (tickets 3 and 4): when two answers agree, and what the answers of three channels give. Definitions only.
-use Rattle.std.specs.Prelude.{ℕ, Bool, cond, ◌&&◌, eqb, Float}
+use Rattle.std.specs.Prelude.{ℕ, Bool, cond, ◌&&◌, eqb, Float, Result, Ok, Err}
 use Rattle.std.specs.Float.{Format}
 use Rattle.std.specs.Float.Ieee.{to_bits}
 use Rattle.vector.specs.Vector.{zero_v}
 use Rattle.vector.specs.declared.vec3.Vec3.{Vec3}
-use Rattle.vote.specs.declared.Counts.{Counts}
+use Rattle.counts.specs.declared.Counts.{Counts}
+use Rattle.counts.specs.Counts.{no_counts}
 use Rattle.vote.specs.declared.Answer.{Answer}
-use Rattle.vote.specs.declared.Verdict.{Verdict}
-use Rattle.vote.specs.declared.Verdict.TheVariants.{Agreed, Refused}
+use Rattle.vote.specs.declared.Agreed.{Agreed}
+use Rattle.vote.specs.declared.NoAgreement.{NoAgreement}
 
 -- ---- when two answers agree
 
@@ -30,34 +31,30 @@ agree f a b =
 
 -- ---- what three answers give
 
+-- an answer, and the odd channel's number; and refusal 5
+abbrev pub agreed : Answer → ℕ → Agreed
+agreed x odd = record { answer = x; odd = odd }
+
+abbrev pub no_agreement : NoAgreement
+no_agreement = record {}
+
 -- 1 and 2 agreeing gives answer 1, else 1 and 3 gives 1, else 2 and 3 gives 2, with the odd channel's number, or 0 if 1 agrees with both
-unfoldable pub vote_of : Format → Answer → Answer → Answer → Verdict
+unfoldable pub vote_of : Format → Answer → Answer → Answer → Result Agreed NoAgreement
 vote_of f a b c =
-    cond (agree f a b) (Agreed a (cond (agree f a c) 0 3))
-    (cond (agree f a c) (Agreed a 2)
-    (cond (agree f b c) (Agreed b 1) Refused))
+    cond (agree f a b) (Ok (agreed a (cond (agree f a c) 0 3)))
+    (cond (agree f a c) (Ok (agreed a 2))
+    (cond (agree f b c) (Ok (agreed b 1)) (Err no_agreement)))
 
 -- ---- document 01's number and values of each case: 0 for an answer, with the odd channel's number, and refusal 5 with zeros
 
-abbrev pub verdict_number : Verdict → ℕ
-verdict_number (Agreed x odd) = 0
-verdict_number Refused = 5
+abbrev pub verdict_number : Result Agreed NoAgreement → ℕ
+verdict_number (Ok x) = 0
+verdict_number (Err e) = 5
 
 unfoldable pub no_answer : Answer
-no_answer =
-    record {
-      outcome = 0;
-      point1 = zero_v;
-      point2 = zero_v;
-      normal = zero_v;
-      counts = record { expansions = 0; made = 0; live = 0; edges = 0; missed = 0 };
-    }
+no_answer = record { outcome = 0; point1 = zero_v; point2 = zero_v; normal = zero_v; counts = no_counts }
 
 -- the answer, and the odd channel's number; zeros where no two agree
-pub record Values : Type 0 where
-  pub answer : Answer
-  pub odd : ℕ
-
-unfoldable pub verdict_values : Verdict → Values
-verdict_values (Agreed x odd) = record { answer = x; odd = odd }
-verdict_values Refused = record { answer = no_answer; odd = 0 }
+unfoldable pub verdict_values : Result Agreed NoAgreement → Agreed
+verdict_values (Ok x) = x
+verdict_values (Err e) = agreed no_answer 0

@@ -5,22 +5,10 @@
 ghost use Rattle.std.specs.Prelude.{◌≡◌};
 ghost use Rattle.std.specs.Float.{binary32};
 ghost use Rattle.number.specs.Told.{Told};
-ghost use Rattle.vote.specs.Vote.{agree, same_bits, same_bits_v, same_counts, vote_of, verdict_number, verdict_values};
+ghost use Rattle.vote.specs.Vote.{agree, same_bits, same_bits_v, vote_of, verdict_number, verdict_values};
 
+use counts::Counts;
 use vector::Vec3;
-
-// The counts of a run: expansions completed, faces made, faces live at the end, most edges in one pass, lookups that missed.
-// A type of its own, laid out for C: the voter depends on no channel and no printer, and a channel on no voter. The crate
-// `answers`, which depends on both, turns the counts of `lines` into these.
-#[repr(C)]
-#[derive(Clone, Copy)]
-pub struct Counts {
-    pub expansions: usize,
-    pub made: usize,
-    pub live: usize,
-    pub edges: usize,
-    pub missed: usize,
-}
 
 // What a channel answers. Floats and counts that the outcome hasn't got are zero.
 #[repr(C)]
@@ -34,20 +22,17 @@ pub struct Answer {
     pub counts: Counts,
 }
 
+// What two channels that agree answer, and the number of the odd one, 0 where there is none.
 #[derive(Clone, Copy)]
-pub enum Verdict {
-    // The answer of two channels that agree, and the number of the odd one, 0 where there is none.
-    Agreed { answer: Answer, odd: usize },
-    // Refusal 5: no two agree.
-    Refused,
+pub struct Agreed {
+    pub answer: Answer,
+    // a number and no Option: document 01 gives the odd channel's number, or 0
+    pub odd: usize,
 }
 
-fn same_counts(a: Counts, b: Counts) -> bool
-    ensures { result ≡ same_counts a b }
-{
-    let faces = (a.expansions == b.expansions) & (a.made == b.made) & (a.live == b.live);
-    faces & (a.edges == b.edges) & (a.missed == b.missed)
-}
+// Refusal 5: no two agree.
+#[derive(Clone, Copy, Debug, PartialEq, Eq)]
+pub struct NoAgreement;
 
 // Whether the bits are the same, all NaNs counting as one, as `to_bits` writes them. Unlike `==`, a NaN agrees with a NaN,
 // and -0 not with +0.
@@ -69,25 +54,25 @@ pub fn agree(a: Answer, b: Answer) -> bool
 {
     let points = same_vectors(a.point1, b.point1) & same_vectors(a.point2, b.point2);
     let floats = points & same_vectors(a.normal, b.normal);
-    (a.outcome == b.outcome) & same_counts(a.counts, b.counts) & floats
+    (a.outcome == b.outcome) & (a.counts == b.counts) & floats
 }
 
 // The answers of channels 1, 2 and 3: the first of 1 and 2, 1 and 3, 2 and 3 that agree decides.
-pub fn vote(a: Answer, b: Answer, c: Answer) -> Verdict
+pub fn vote(a: Answer, b: Answer, c: Answer) -> Result<Agreed, NoAgreement>
     ensures answer { result ≡ vote_of binary32 a b c }
     ensures told { Told verdict_number verdict_values result (vote_of binary32 a b c) }
 {
     let first_last = agree(a, c);
     if agree(a, b) {
         let odd = if first_last { 0 } else { 3 };
-        return Verdict::Agreed { answer: a, odd };
+        return Ok(Agreed { answer: a, odd });
     }
     if first_last {
-        return Verdict::Agreed { answer: a, odd: 2 };
+        return Ok(Agreed { answer: a, odd: 2 });
     }
     if agree(b, c) {
-        Verdict::Agreed { answer: b, odd: 1 }
+        Ok(Agreed { answer: b, odd: 1 })
     } else {
-        Verdict::Refused
+        Err(NoAgreement)
     }
 }

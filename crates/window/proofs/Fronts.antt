@@ -1,13 +1,22 @@
 -- Bytes moved to the start of a buffer, one after the other in their order: a byte that is moved was not written over before (`one-more-front`), since it stands at its new place or
 -- after it. Assumes nothing.
-use Rattle.std.proofs.Common.{◌≡◌, ℕ, suc, ◌+◌, ◌<◌, ◌≤◌, List, [], ◌∷◌, length, get_or, take, drop, set, sym, refl, ap, ◌∙◌, arith, length-drop, length-take-le, get_or-drop, get_or-set_other}
-use lib.Seq.{sets}
-use Rattle.lines.proofs.Puts.{one_more}
+use Rattle.std.proofs.Common.{◌≡◌, ℕ, suc, ◌+◌, ◌<◌, ◌≤◌, List, [], ◌∷◌, ◌++◌, add-zero, add-one, length, get_or, take, drop, set, sym, refl, ap, ◌∙◌, arith, length-drop, length-take-le, get_or-drop, get_or-set_other}
+use lib.Seq.{sets, take-suc}
 
 -- what stands after the places written to
 beyond : (l o : List ℕ) (at j : ℕ) → at + length l ≤ j → get_or (sets o at l) j 0 ≡ get_or o j 0
 beyond [] o at j h = refl
 beyond (x ∷ l) o at j h = beyond l (set o at x) (suc at) j (omega arith) ∙ get_or-set_other o at j x 0 (λ e. omega arith)
+
+sets-append : (l m o : List ℕ) (at : ℕ) → sets o at (l ++ m) ≡ sets (sets o at l) (at + length l) m
+sets-append [] m o at = rw (add-zero at)
+sets-append (x ∷ l) m o at = sets-append l m (set o at x) (suc at) ∙ ap (λ (k : ℕ). sets (sets (set o at x) (suc at) l) k m) (omega arith)
+
+-- one byte more
+one_more : (o t : List ℕ) (at i : ℕ) → i < length t → set (sets o at (take i t)) (at + i) (get_or t i 0) ≡ sets o at (take (i + 1) t)
+one_more o t at i h =
+    let k : length (take i t) ≡ i = length-take-le i t (omega arith) in
+    sym (rw (add-one, take-suc t i 0, sets-append (take i t) (get_or t i 0 ∷ []) o at, k))
 
 -- a turn of the loop that moves
 pub one-more-front : (s : List ℕ) (from i : ℕ) → from + i < length s

@@ -1,7 +1,7 @@
 -- The window that a case file is read through: offsets, what is not read yet, that at the start of the buffer, and what a turn did (document 01, "Case file and vote"). Definitions only.
-use Rattle.std.specs.Prelude.{ℕ, ◌+◌, ◌-◌, ◌%◌, ◌^◌, cond, List, length, take, drop, nat_le, nat_lt}
+use Rattle.std.specs.Prelude.{ℕ, ◌+◌, ◌-◌, ◌%◌, ◌^◌, cond, List, length, take, drop, nat_le, nat_lt, Result, Ok, Err}
 use Rattle.std.proofs.lemmas.List.Edits.{sets}
-use Rattle.lines.specs.declared.text.Placed.{Placed}
+use Rattle.refusal.specs.declared.NoRoom.{NoRoom}
 use Rattle.window.specs.declared.Window.{Window}
 use Rattle.window.specs.declared.Turn.{Turn}
 
@@ -22,10 +22,10 @@ unfoldable pub front_of : List ℕ → ℕ → ℕ → List ℕ
 front_of s at end = cond (nat_lt (length s) end) s (cond (nat_lt end at) s (sets s 0 (take (end - at) (drop at s))))
 
 -- of a line that was written, or had no room: with the place of the next record, or none
-abbrev pub line_turn : ℕ → Placed → Turn
-line_turn next (Placed.Next k) = Turn.Line next k
-line_turn next Placed.NoRoom = Turn.NoRoom
+abbrev pub line_turn : ℕ → Result ℕ NoRoom → Turn
+line_turn next (Ok k) = Turn.Line next k
+line_turn next (Err e) = Turn.NoRoom
 
-abbrev pub bad_turn : Placed → Turn
-bad_turn (Placed.Next k) = Turn.Stopped k
-bad_turn Placed.NoRoom = Turn.NoRoom
+abbrev pub bad_turn : Result ℕ NoRoom → Turn
+bad_turn (Ok k) = Turn.Stopped k
+bad_turn (Err e) = Turn.NoRoom

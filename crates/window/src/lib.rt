@@ -4,7 +4,7 @@
 ghost use Rattle.std.specs.Prelude.{◌≡◌};
 ghost use Rattle.window.specs.Window.{offset_of, rest_of, moved_of, front_of, line_turn, bad_turn};
 
-use lines::Placed;
+use refusal::NoRoom;
 
 // The part of the file that is in a buffer: the offset of the buffer's first byte in the file, the place of the next
 // record, the end of what was read, and whether the file ends there.
@@ -20,14 +20,14 @@ pub struct Window {
 pub fn offset_of(base: u64, place: usize) -> u64
     ensures { result ≡ offset_of base place }
 {
-    std::num::wrapping_add_u64(base, place as u64)
+    base.wrapping_add(place as u64)
 }
 
 // The bytes that are not read yet.
 pub fn rest_of(from: usize, until: usize) -> usize
     ensures { result ≡ rest_of «from» until }
 {
-    if from <= until { until - from } else { 0 }
+    until.saturating_sub(from)
 }
 
 // The window once those bytes stand at the start of the buffer.
@@ -38,29 +38,24 @@ pub fn moved(w: Window) -> Window
         base: offset_of(w.base, w.from),
         from: 0,
         until: rest_of(w.from, w.until),
-        ended: w.ended,
+        ..w
     }
 }
 
 // Those bytes are put there, where the window lies in the buffer: each goes to a place before its own, or stays.
+#[tactic(auto, unfolding(crate::specs::Window::front_of))]
 pub fn to_front(bytes: &mut [u8], from: usize, until: usize)
     ensures { bytes.new ≡ front_of bytes.old «from» until }
 {
-    if bytes.len() < until {
+    if bytes.len() < until || until < from {
         return;
     }
-    if until < from {
-        return;
-    }
-    let n = until - from;
-    let mut i = 0;
-    while i < n {
+    for i in 0..until - from {
         bytes[i] = bytes[from + i];
-        i += 1;
     }
 }
 
-// What one turn did.
+// What one turn did. No Result: each case is a way that a turn may end, and of each the definition says what is left in the output.
 #[derive(Clone, Copy)]
 pub enum Turn {
     // A record's line was written: the place of the next record, and of the next line.
@@ -74,21 +69,21 @@ pub enum Turn {
 }
 
 // A line was written, or had no room.
-pub fn line_turn(next: usize, placed: Placed) -> Turn
+pub fn line_turn(next: usize, placed: Result<usize, NoRoom>) -> Turn
     ensures { result ≡ line_turn next placed }
 {
     match placed {
-        Placed::Next(place) => Turn::Line { next, place },
-        Placed::NoRoom => Turn::NoRoom,
+        Ok(place) => Turn::Line { next, place },
+        Err(NoRoom) => Turn::NoRoom,
     }
 }
 
 // `bad` was written in place of a record's line, or had no room.
-pub fn bad_turn(placed: Placed) -> Turn
+pub fn bad_turn(placed: Result<usize, NoRoom>) -> Turn
     ensures { result ≡ bad_turn placed }
 {
     match placed {
-        Placed::Next(place) => Turn::Stopped(place),
-        Placed::NoRoom => Turn::NoRoom,
+        Ok(place) => Turn::Stopped(place),
+        Err(NoRoom) => Turn::NoRoom,
     }
 }

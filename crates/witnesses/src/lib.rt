@@ -1,22 +1,26 @@
 // `result` of gjk.rs: the two witness points, weighted over the vertices of a simplex.
 #![tactic(auto)]
 
-ghost use Rattle.std.specs.Prelude.{◌≡◌, ◌≤◌};
+ghost use Rattle.std.specs.Prelude.{◌≡◌};
 ghost use Rattle.std.specs.Float.{binary32};
 ghost use Rattle.number.specs.Told.{Told};
 ghost use Rattle.witnesses.specs.Witnesses.{weight_of, corner_of, last_of, with_vertex, witnesses_to, result_of, witnesses_number, witnesses_values};
 
-use simplex::{Corner, Scalar, VoronoiSimplex};
+use refusal::WouldPanic;
+use shape::Vertex;
+use simplex::VoronoiSimplex;
 use vector::Vec3;
 
+// The point on each shape.
 #[derive(Clone, Copy)]
-pub enum Witnesses {
-    At(Vec3, Vec3),
-    Refused,
+pub struct Witnesses {
+    pub point1: Vec3,
+    pub point2: Vec3,
 }
 
+// `prev` is the Rust's own flag. The three choices that it makes stay functions of their own: a closure for each would say no less.
 // Weight i: the previous one, or the present.
-fn weight_of(simplex: VoronoiSimplex, prev: bool, i: usize) -> Scalar
+fn weight_of(simplex: VoronoiSimplex, prev: bool, i: usize) -> Result<f32, WouldPanic>
     ensures { result ≡ weight_of simplex prev i }
 {
     if prev {
@@ -27,7 +31,7 @@ fn weight_of(simplex: VoronoiSimplex, prev: bool, i: usize) -> Scalar
 }
 
 // Vertex i: the previous one, or the present.
-fn corner_of(simplex: VoronoiSimplex, prev: bool, i: usize) -> Corner
+fn corner_of(simplex: VoronoiSimplex, prev: bool, i: usize) -> Result<Vertex, WouldPanic>
     ensures { result ≡ corner_of simplex prev i }
 {
     if prev {
@@ -45,40 +49,37 @@ fn last_of(simplex: VoronoiSimplex, prev: bool) -> usize
 }
 
 // The witness points with vertex i added by its weight.
-fn with_vertex(simplex: VoronoiSimplex, prev: bool, i: usize, sum: Witnesses) -> Witnesses
-    ensures { result ≡ with_vertex binary32 simplex prev i sum }
+fn with_vertex(
+    simplex: VoronoiSimplex,
+    prev: bool,
+    i: usize,
+    sum: Witnesses,
+) -> Result<Witnesses, WouldPanic>
+    ensures { result ≡ with_vertex binary32 simplex prev i (Ok sum) }
 {
-    let Witnesses::At(res1, res2) = sum else {
-        return Witnesses::Refused;
-    };
-    let weight = weight_of(simplex, prev, i);
-    let Scalar::Is(coord) = weight else {
-        return Witnesses::Refused;
-    };
-    let corner = corner_of(simplex, prev, i);
-    let Corner::At(point) = corner else {
-        return Witnesses::Refused;
-    };
-    let orig1 = point.orig1;
-    let orig2 = point.orig2;
-    Witnesses::At(res1.add(orig1.scale(coord)), res2.add(orig2.scale(coord)))
+    let coord = weight_of(simplex, prev, i)?;
+    let point = corner_of(simplex, prev, i)?;
+    Ok(Witnesses {
+        point1: sum.point1 + point.orig1 * coord,
+        point2: sum.point2 + point.orig2 * coord,
+    })
 }
 
 // The first `end` vertices.
-fn witnesses_to(simplex: VoronoiSimplex, prev: bool, end: usize) -> Witnesses
-    requires { end ≤ 4 }
+fn witnesses_to(simplex: VoronoiSimplex, prev: bool, end: usize) -> Result<Witnesses, WouldPanic>
     ensures { result ≡ witnesses_to binary32 simplex prev end }
 {
-    let mut sum = Witnesses::At(Vec3::ZERO, Vec3::ZERO);
-    let mut i: usize = 0;
-    while i < end {
-        sum = with_vertex(simplex, prev, i, sum);
-        i += 1;
+    let mut sum = Witnesses {
+        point1: Vec3::ZERO,
+        point2: Vec3::ZERO,
+    };
+    for i in 0..end {
+        sum = with_vertex(simplex, prev, i, sum)?;
     }
-    sum
+    Ok(sum)
 }
 
-pub fn result(simplex: VoronoiSimplex, prev: bool) -> Witnesses
+pub fn result(simplex: VoronoiSimplex, prev: bool) -> Result<Witnesses, WouldPanic>
     ensures answer { result ≡ result_of binary32 simplex prev }
     ensures told { Told witnesses_number witnesses_values result (result_of binary32 simplex prev) }
 {
@@ -86,5 +87,5 @@ pub fn result(simplex: VoronoiSimplex, prev: bool) -> Witnesses
     if last < 4 {
         return witnesses_to(simplex, prev, last + 1);
     }
-    Witnesses::Refused
+    Err(WouldPanic)
 }

@@ -13,7 +13,8 @@ use Rattle.vector.specs.declared.vec3.Vec3.{Vec3}
 use Rattle.shape.specs.declared.support.Shape.{Shape}
 use Rattle.shape.specs.declared.support.Shape.TheVariants.{Ball, Cuboid, Capsule, Triangle}
 use Rattle.casefile.specs.declared.records.Case.{Case}
-use Rattle.casefile.specs.declared.records.CaseAnswer.{CaseAnswer}
+use Rattle.std.specs.Prelude.{Ok}
+use Rattle.casefile.specs.Numbers.{got}
 use Rattle.casefile.specs.Records.{shape_in, shape_of, pose_of, case_of, read_case, encode_case, bits_of, vector_words, pose_words, shape_words, shape_numbers, flag_of, words_of}
 use Rattle.writing.proofs.RecordTrip.{Small, small-append, ValidShape, Valid, encoded-case-between}
 
@@ -124,7 +125,7 @@ module _ (f : Format) (short : Short f) where
       }
 
   -- what is written is read back, wherever it stands and whatever follows
-  pub written : (c : Case) (p t : List ℕ) → Held f c → read_case f (p ++ (encode_case (words_of f c) ++ t)) (length p) ≡ CaseAnswer.Whole c (length p + length (encode_case (words_of f c)))
+  pub written : (c : Case) (p t : List ℕ) → Held f c → read_case f (p ++ (encode_case (words_of f c) ++ t)) (length p) ≡ Ok (got c (length p + length (encode_case (words_of f c))))
   written c p t h =
       encoded-case-between f (words_of f c) p t (valid c h)
-      ∙ ap (λ (d : Case). CaseAnswer.Whole d (length p + length (encode_case (words_of f c)))) (stands-for f c h)
+      ∙ ap (λ (d : Case). Ok (got d (length p + length (encode_case (words_of f c))))) (stands-for f c h)

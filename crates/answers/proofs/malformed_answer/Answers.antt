@@ -6,4 +6,4 @@ use Rattle.answers.proofs.malformed_answer.Goals as goal
 
 pub returns : goal.returns
 unfolding malformed zero_v of_bits
-returns c = simp (← c.no_counts.ensures, ← c.answer_with.ensures)
+returns c = simp (← c.answer_with.ensures)

@@ -5,10 +5,10 @@ use Rattle.vote.specs.Vote.{verdict_values, no_answer}
 use Rattle.answers.specs.Answers.{voted_of}
 use Rattle.answers.proofs.voted_of.Goals as goal
 
-pub returns-in-Agreed : goal.returns-in-Agreed
+pub returns-in-Ok : goal.returns-in-Ok
 unfolding voted_of verdict_values
-returns-in-Agreed c = rw c.in-Agreed.is
+returns-in-Ok c = rw c.in-Ok.is
 
-pub returns-in-Refused : goal.returns-in-Refused
+pub returns-in-Err : goal.returns-in-Err
 unfolding voted_of verdict_values no_answer zero_v of_bits
-returns-in-Refused c = rw (c.in-Refused.is, c.answer_with.ensures, c.no_counts.ensures)
+returns-in-Err c = rw (c.in-Err.is, c.answer_with.ensures)

@@ -4,7 +4,7 @@ use Rattle.pipes.proofs.Reading.{answerable}
 use Rattle.campaign.proofs.turn.Goals as goal
 
 pub slice_bounds-figures_next-end : goal.slice_bounds-figures_next-end
-slice_bounds-figures_next-end c = (answerable _ c.make_ready-ready.result c.make_ready-ready.ensures.readied c.in-Record.is).within
+slice_bounds-figures_next-end c = (answerable _ c.make_ready-ready.result c.make_ready-ready.ensures.readied c.in-Ok.is).within
 
-pub slice_bounds-figures_next-end-in-Record : goal.slice_bounds-figures_next-end-in-Record
-slice_bounds-figures_next-end-in-Record c = sym (length-take-le _ _ (answerable _ c.make_ready-ready.result c.make_ready-ready.ensures.readied c.in-Record.is).within)
+pub slice_bounds-figures_next-end-in-Ok : goal.slice_bounds-figures_next-end-in-Ok
+slice_bounds-figures_next-end-in-Ok c = sym (length-take-le _ _ (answerable _ c.make_ready-ready.result c.make_ready-ready.ensures.readied c.in-Ok.is).within)

@@ -40,11 +40,11 @@ returns-then-not-is_hull-clause-answer c =
 pub returns-then-not-is_hull-clause-number : goal.returns-then-not-is_hull-clause-number
 returns-then-not-is_hull-clause-number c = ap certificate_number (returns-then-not-is_hull-clause-answer c)
 
-pub greatest-requires-clause-has_corner : goal.greatest-requires-clause-has_corner
-greatest-requires-clause-has_corner c =
+pub greatest-requires : goal.greatest-requires
+greatest-requires c =
     let first = length c.args.first.now in
     let second = length c.args.second.now in
-    has-corner first (split (is_hull first) (is_hull second) (lengths-hold (goal.at.greatest-requires-clause-has_corner c).Else-not-is_hull)).0
+    has-corner first (split (is_hull first) (is_hull second) (lengths-hold (goal.at.greatest-requires c).Else-not-is_hull)).0
 
 pub returns-then-not-every_on_grid-vector_on_grid-clause-answer : goal.returns-then-not-every_on_grid-vector_on_grid-clause-answer
 returns-then-not-every_on_grid-vector_on_grid-clause-answer c =

@@ -13,22 +13,22 @@ use Rattle.certificate.proofs.every_on_grid.Goals as goal
 use Rattle.certificate.proofs.every_on_grid.Goals.{After-on_grid}
 
 -- what the call tells of the number at this place
-told : (c : After-on_grid) → c.on_grid.result ≡ on_grid (get_or c.args.hull.now c.loop-i.i (pos 0))
+told : (c : After-on_grid) → c.on_grid.result ≡ on_grid (get_or c.args.hull.now c.loop-n.n-index (pos 0))
 told c =
-    let fits : SFits w32 (get_or c.args.hull.now c.loop-i.i (pos 0)) = search rules in
+    let fits : SFits w32 (get_or c.args.hull.now c.loop-n.n-index (pos 0)) = search rules in
     c.on_grid.ensures ∙ ap on_grid (to_z-of_z fits)
 
 pub returns-then-not-on_grid : goal.returns-then-not-on_grid
 returns-then-not-on_grid c =
-    sym (every-fails on_grid c.args.hull.now c.loop-i.i c.loop-i-test.true (sym (told (goal.at.returns-then-not-on_grid c).After-on_grid) ∙ c.if-not-on_grid.true))
-    ∙ c.loop-i.invariant.1
+    sym (every-fails on_grid c.args.hull.now c.loop-n.n-index c.loop-n-test.true (sym (told (goal.at.returns-then-not-on_grid c).After-on_grid) ∙ c.if-not-on_grid.true))
+    ∙ c.loop-n.invariant.1
 
-pub loop-i-preserved : goal.loop-i-preserved
-loop-i-preserved c = (
+pub loop-n-preserved : goal.loop-n-preserved
+loop-n-preserved c = (
   omega arith,
-  sym (every-passes on_grid c.args.hull.now c.loop-i.i c.loop-i-test.true (sym (told (goal.at.loop-i-preserved c).After-on_grid) ∙ c.if-not-on_grid.false))
-      ∙ c.loop-i.invariant.1,
+  sym (every-passes on_grid c.args.hull.now c.loop-n.n-index c.loop-n-test.true (sym (told (goal.at.loop-n-preserved c).After-on_grid) ∙ c.if-not-on_grid.false))
+      ∙ c.loop-n.invariant.1,
 )
 
 pub returns : goal.returns
-returns c = sym (every-end on_grid c.args.hull.now c.loop-i.i c.loop-i-test.false) ∙ c.loop-i.invariant.1
+returns c = sym (every-end on_grid c.args.hull.now c.loop-n.n-index c.loop-n-test.false) ∙ c.loop-n.invariant.1

@@ -12,26 +12,26 @@ use Rattle.certificate.proofs.product.Goals.{After-times-2, After-times-3}
 
 -- the first two products
 record Two (c : After-times-2) : Type 0 where
-  fit : Fitting c.args.d c.args.c
-  first : c.times.result ≡ c.args.d.x *ℤ c.args.c.x
-  second : c.times-2.result ≡ c.args.d.y *ℤ c.args.c.y
+  fit : Fitting c.args.direction.vector c.args.corner.vector
+  first : c.times.result ≡ c.args.direction.vector.x *ℤ c.args.corner.vector.x
+  second : c.times-2.result ≡ c.args.direction.vector.y *ℤ c.args.corner.vector.y
 
 two : (c : After-times-2) → Two c
 two c =
-    let dx : SFits w32 c.args.d.x = search rules in
-    let dy : SFits w32 c.args.d.y = search rules in
-    let cx : SFits w32 c.args.c.x = search rules in
-    let cy : SFits w32 c.args.c.y = search rules in
+    let dx : SFits w32 c.args.direction.vector.x = search rules in
+    let dy : SFits w32 c.args.direction.vector.y = search rules in
+    let cx : SFits w32 c.args.corner.vector.x = search rules in
+    let cy : SFits w32 c.args.corner.vector.y = search rules in
     record {
-      fit = on-grid-fits c.args.d c.args.c c.requires.direction_in_range c.requires.corner_in_range;
+      fit = on-grid-fits c.args.direction.vector c.args.corner.vector c.args.direction.in_range c.args.corner.in_range;
       first = simp (to_z-of_z dx, to_z-of_z cx) at c.times.ensures;
       second = simp (to_z-of_z dy, to_z-of_z cy) at c.times-2.ensures;
     }
 
-third : (c : After-times-3) → c.times-3.result ≡ c.args.d.z *ℤ c.args.c.z
+third : (c : After-times-3) → c.times-3.result ≡ c.args.direction.vector.z *ℤ c.args.corner.vector.z
 third c =
-    let dz : SFits w32 c.args.d.z = search rules in
-    let cz : SFits w32 c.args.c.z = search rules in
+    let dz : SFits w32 c.args.direction.vector.z = search rules in
+    let cz : SFits w32 c.args.corner.vector.z = search rules in
     simp (to_z-of_z dz, to_z-of_z cz) at c.times-3.ensures
 
 pub overflow_add-result : goal.overflow_add-result

@@ -4,4 +4,4 @@ use Rattle.channel.proofs.Separating.{started}
 use Rattle.channel.proofs.start_of.Goals as goal
 
 pub returns : goal.returns
-returns c = started binary32 _ _ _ _ c.from_shapes-first.ensures c.new.ensures c.reset-reset.ensures.answer
+returns c = started binary32 _ _ _ _ c.support_point-first.ensures c.new.ensures c.reset.ensures.answer

@@ -1,24 +1,33 @@
--- The store's row is whole, and the channel on it, published, is the channel on the store's first records (`on-records`). Assumes nothing.
-use mathlib.Core.Path.{◌≡◌, sym, ap, ◌∙◌, subst}
-use native.Mathlib.Omega.{arith}
-use lib.ListN.{length}
-use Rattle.std.specs.Float.{binary32}
-use Rattle.edges.specs.declared.Row.{Row}
-use Rattle.edges.specs.Edges.{Whole, row_of}
-use Rattle.edges.proofs.Laws.{row-whole}
-use Rattle.answers.specs.Answers.{shape_of}
-use Rattle.epa_lent.proofs.Lent.{on-records}
-use Rattle.embedding.specs.Embedding.{ran}
+-- A kind above 3 leaves the lists as they are, the first records and the others; of two shapes the channel's answer is told. Assumes nothing.
+use mathlib.Core.Path.{◌≡◌, sym, ap, ◌∙◌}
+use mathlib.Core.List.{List}
+use Prim.Native.Nat.{ℕ}
+use Rattle.std.proofs.lemmas.List.{take-append-drop}
+use Rattle.lines.specs.declared.line.Outcome.{Outcome}
+use Rattle.epa_polytope.specs.Stores.{Lists, with_edges}
+use Rattle.epa.specs.Final.{Final, final, answered}
+use Rattle.epa_lent.specs.Lent.{on_first}
+use Rattle.vote.specs.declared.Answer.{Answer}
+use Rattle.answers.specs.Answers.{answer_of, malformed}
 use Rattle.embedding.proofs.separation_run.Goals as goal
 
-pub run_row-ran-requires : goal.run_row-ran-requires
-run_row-ran-requires c = subst Whole (sym c.row_of-row.ensures) (row-whole c.args.edges.now)
+-- what keeps the lists keeps a store's
+kept : (x : Answer) (l : Lists) → final x l ≡ on_first (λ k. final x k) l
+kept x l = ap (λ (es : List ℕ). final x (with_edges es l)) (sym (take-append-drop 412 l.edges))
+
+pub returns-in_default : goal.returns-in_default
+returns-in_default c = rw (sym c.shape_of.ensures ∙ c.in_default.is, c.malformed_answer.ensures) (kept malformed _)
+
+pub returns-in_default-shape_of : goal.returns-in_default-shape_of
+returns-in_default-shape_of c =
+    rw (
+      sym c.shape_of.ensures ∙ c.in-Some.is,
+      sym c.shape_of-2.ensures ∙ c.in_default-shape_of.is,
+      c.malformed_answer-in_default-shape_of.ensures,
+    )
+    (kept malformed _)
 
 pub returns : goal.returns
 returns c =
-    let es = c.args.edges.now in
-    let row = c.run_row-ran.result.row in
-    let full : length row.pairs ≡ 412 = omega arith in
-    let same : row.n ≡ (row_of es).n = c.run_row-ran.ensures.1 ∙ ap (λ (r : Row). r.n) c.row_of-row.ensures in
-    let ends = rw c.row_of-row.ensures at c.run_row-ran.ensures.0 in
-    rw c.publish.ensures (on-records (ran binary32 c.args.pos12 (shape_of c.args.g1) (shape_of c.args.g2) c.args.dir c.args.max_dist c.args.exact) es row full same ends)
+    rw (sym c.shape_of.ensures ∙ c.in-Some.is, sym c.shape_of-2.ensures ∙ c.in-Some-shape_of.is, c.answer_of.ensures)
+    (ap (λ (x : Final Outcome). answered answer_of x) c.separate.ensures)

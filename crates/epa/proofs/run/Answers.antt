@@ -1,14 +1,12 @@
 -- `run` does what the run's `epa` does: the start, and then the expansions, of which the stores that the start leaves are a run's. Assumes nothing.
-use mathlib.Core.Path.{refl}
-use Rattle.epa_polytope.proofs.Doing.{here}
 use Rattle.epa.proofs.Running.{start-ends, started, run_ends}
 use Rattle.epa.proofs.run.Goals as goal
 
-pub returns-in-Ended : goal.returns-in-Ended
-returns-in-Ended c k = start-ends _ _ _ (here c.begin-begun.ensures _ refl) c.in-Ended.is
+pub returns-in-Err-clause-leaves : goal.returns-in-Err-clause-leaves
+returns-in-Err-clause-leaves g c = start-ends _ _ _ c.begin.ensures.leaves c.in-Err.is
 
 pub expansions-requires : goal.expansions-requires
-expansions-requires c = started _ _ _ (here c.begin-begun.ensures _ refl) c.in-Ready.is
+expansions-requires g c = started _ _ _ c.begin.ensures.leaves c.in-Ok.is
 
-pub returns-in-Ready : goal.returns-in-Ready
-returns-in-Ready c k = run_ends _ _ _ (here c.begin-begun.ensures _ refl) c.in-Ready.is (c.expansions.ensures k)
+pub returns-in-Ok-clause-leaves : goal.returns-in-Ok-clause-leaves
+returns-in-Ok-clause-leaves g c = run_ends _ _ _ c.begin.ensures.leaves c.in-Ok.is c.expansions.ensures.leaves

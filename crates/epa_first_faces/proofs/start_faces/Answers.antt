@@ -4,10 +4,10 @@ use Rattle.epa_polytope.specs.Start.{start_faces}
 use Rattle.epa_polytope.proofs.Doing.{first_way, second_way}
 use Rattle.epa_first_faces.proofs.start_faces.Goals as goal
 
-pub returns-then-dim-eq3 : goal.returns-then-dim-eq3
+pub returns-then-dim-eq3-clause-leaves : goal.returns-then-dim-eq3-clause-leaves
 unfolding start_faces
-returns-then-dim-eq3 c k = first_way _ (eq-eqb _ _ c.if-dim-eq3.true) (c.start_four.ensures k)
+returns-then-dim-eq3-clause-leaves c = first_way _ (eq-eqb _ _ c.if-dim-eq3.true) c.start_four.ensures.leaves
 
-pub returns : goal.returns
+pub returns-clause-leaves : goal.returns-clause-leaves
 unfolding start_faces
-returns c k = second_way _ (ne_eqb _ _ c.if-dim-eq3.false) (c.start_two.ensures k)
+returns-clause-leaves c = second_way _ (ne_eqb _ _ c.if-dim-eq3.false) c.start_two.ensures.leaves

@@ -14,7 +14,7 @@ loop-held-smaller c = turn-less _ _ _ _ _ _ _ c.loop-held-test.true (c.take_turn
 
 pub loop-held-preserved : goal.loop-held-preserved
 loop-held-preserved c =
-    again c.loop-held.invariant c.take_turn-turned.ensures (goes _ c.in-Done-answered.is c.if-turned.false)
+    again c.loop-held.invariant c.take_turn-turned.ensures (goes _ c.in-Ok-answer.is c.if-turned.false)
     c.take_turn-turned.auto.deleted c.take_turn-turned.auto.edges c.take_turn-turned.auto.pending
 
 -- a start after which nothing is done
@@ -25,18 +25,18 @@ pub returns-then-start : goal.returns-then-start
 returns-then-start c k = walk-short _ _ c.if-start.true
 
 -- a turn that found no room
-pub returns-in_default-answered : goal.returns-in_default-answered
-returns-in_default-answered c k =
-    ends-full c.loop-held.invariant c.take_turn-turned.ensures c.in_default-answered.is k
-    ∙ ap (plain_walk _) (goes _ c.in-Done.is c.if-start.false)
+pub returns-in_default-answer : goal.returns-in_default-answer
+returns-in_default-answer c k =
+    ends-full c.loop-held.invariant c.take_turn-turned.ensures c.in_default-answer.is k
+    ∙ ap (plain_walk _) (goes _ c.in-Ok.is c.if-start.false)
 
 pub returns-then-turned : goal.returns-then-turned
 returns-then-turned c k =
     ends-short c.loop-held.invariant c.take_turn-turned.ensures c.if-turned.true k
-    ∙ ap (plain_walk _) (goes _ c.in-Done.is c.if-start.false)
+    ∙ ap (plain_walk _) (goes _ c.in-Ok.is c.if-start.false)
 
 -- no question is held
 pub returns : goal.returns
 returns c k =
     ends-empty c.loop-held.invariant refl refl (omega (arith, c.loop-held-test.false)) k
-    ∙ ap (plain_walk _) (goes _ c.in-Done.is c.if-start.false)
+    ∙ ap (plain_walk _) (goes _ c.in-Ok.is c.if-start.false)

@@ -2,8 +2,8 @@
 use Rattle.epa_polytope.proofs.Pushing.{vertex-refused, vertex-written}
 use Rattle.epa_pushes.proofs.push_vertex.Goals as goal
 
-pub returns-then-vertices-n : goal.returns-then-vertices-n
-returns-then-vertices-n c k = vertex-refused _ _ _ c.if-vertices-n.true
+pub returns-then-stores-n-clause-leaves : goal.returns-then-stores-n-clause-leaves
+returns-then-stores-n-clause-leaves c = vertex-refused _ _ _ c.if-stores-n.true
 
-pub returns : goal.returns
-returns c k = vertex-written _ _ _ c.if-vertices-n.false c.put_vertex.ensures
+pub returns-clause-leaves : goal.returns-clause-leaves
+returns-clause-leaves c = vertex-written _ _ _ c.if-stores-n.false c.put_vertex.ensures

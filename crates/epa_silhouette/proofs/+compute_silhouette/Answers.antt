@@ -10,7 +10,7 @@ pub returns-in_default : goal.returns-in_default
 returns-in_default t c k = walk-full _ _ _ c.in_default.is
 
 pub returns-then-deleted_at-ne0 : goal.returns-then-deleted_at-ne0
-returns-then-deleted_at-ne0 t c k = walk-dead _ _ _ c.in-Done.is (λ z. c.if-deleted_at-ne0.true (c.deleted_at.ensures ∙ z))
+returns-then-deleted_at-ne0 t c k = walk-dead _ _ _ c.in-Ok.is (λ z. c.if-deleted_at-ne0.true (c.deleted_at.ensures ∙ z))
 
 -- the face was live, and fewer are where it is deleted
 pub compute_silhouette-r-requires : goal.compute_silhouette-r-requires
@@ -28,7 +28,7 @@ compute_silhouette-requires t c =
 
 pub returns-then-can_be_seen_by : goal.returns-then-can_be_seen_by
 returns-then-can_be_seen_by t c k =
-    walk-both _ _ _ c.in-Done.is (sym c.deleted_at.ensures ∙ c.if-deleted_at-ne0.false)
+    walk-both _ _ _ c.in-Ok.is (sym c.deleted_at.ensures ∙ c.if-deleted_at-ne0.false)
     c.set_deleted.new.deleted _ _
     (sym (c.can_be_seen_by.ensures k) ∙ c.if-can_be_seen_by.true)
     c.set_deleted.ensures
@@ -37,6 +37,6 @@ returns-then-can_be_seen_by t c k =
 
 pub returns-else-can_be_seen_by : goal.returns-else-can_be_seen_by
 returns-else-can_be_seen_by t c k =
-    rw (← c.in-Done.is) at c.note.ensures
-    ∙ walk-edge _ _ _ c.in-Done.is (sym c.deleted_at.ensures ∙ c.if-deleted_at-ne0.false)
+    rw (← c.in-Ok.is) at c.note.ensures
+    ∙ walk-edge _ _ _ c.in-Ok.is (sym c.deleted_at.ensures ∙ c.if-deleted_at-ne0.false)
     (sym (c.can_be_seen_by.ensures k) ∙ c.if-can_be_seen_by.false)

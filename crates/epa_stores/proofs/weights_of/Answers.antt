@@ -1,4 +1,5 @@
 -- What `weights_of` returns. Assumes nothing.
+use lib.Ieee.{of_bits}
 use borrow.Author.Tests.{le-ltb, lt-ltb}
 use Rattle.epa_polytope.specs.Stores.{weights_of}
 use Rattle.epa_stores.proofs.weights_of.Goals as goal
@@ -8,5 +9,5 @@ unfolding weights_of
 returns-then-i-floats c = simp (← c.vec_at.ensures, lt-ltb _ _ c.if-i-floats.true)
 
 pub returns : goal.returns
-unfolding weights_of
-returns c = simp (← c.nowhere.ensures, le-ltb _ _ c.if-i-floats.false)
+unfolding weights_of of_bits
+returns c = simp (le-ltb _ _ c.if-i-floats.false)

@@ -1,49 +1,33 @@
--- `pop` is `pop_of`, test by test, and told as that; what it leaves is what `take_last` leaves.
-use Prim.Native.Nat.{ℕ, ◌-◌}
-use mathlib.Core.Path.{◌≡◌, sym, ap, ◌∙◌}
+-- `pop` is `pop_of`, by what `peek` answers, and told as that; what it leaves is what `take_last` leaves.
+use Prim.Native.Nat.{◌+◌, ◌-◌}
+use mathlib.Core.Path.{◌≡◌, refl, sym, ap, ◌∙◌}
 use native.Mathlib.Omega.{arith}
-use Rattle.number.specs.Told.{Told}
-use Rattle.number.proofs.Told.{both_of}
+use Rattle.std.specs.Prelude.{Option, Some, Result, Ok}
+use Rattle.refusal.specs.declared.NoRoom.{NoRoom}
+use Rattle.number.proofs.Told.{told}
 use Rattle.heap.specs.declared.Popped.{Popped}
-use Rattle.heap.specs.Heap.{Heap, heap, entry_at, popped}
-use Rattle.heap.specs.Calls.{After, leaves, pop_number, pop_values}
-use Rattle.heap.proofs.Answers.{pop-empty, pop-first, pop-no-room}
+use Rattle.heap.specs.Heap.{Heap, heap, popped}
+use Rattle.heap.specs.Calls.{After, leaves, popped_of}
+use Rattle.heap.proofs.Answers.{first_out}
 use Rattle.heap.proofs.pop.Goals as goal
 
--- both clauses from the first
-told : {x y : After Popped} → x ≡ y → (x ≡ y) × Told pop_number pop_values x.answer y.answer
-told = both_of (λ (x : After Popped). x.answer)
+pub overflow_sub-last : goal.overflow_sub-last
+overflow_sub-last c = let a = c.args in let f = first_out (heap a.faces.now a.keys.now a.count) c.in-Some.is c.in_ok-entry.ensures.answer in omega (arith, f.counts)
 
-pub returns-then-count-eq0-clause-answer : goal.returns-then-count-eq0-clause-answer
-returns-then-count-eq0-clause-answer c = (let a = c.args in
-    told (sym (pop-empty (heap a.faces.now a.keys.now a.count) c.if-count-eq0.true))).0
-
-pub returns-then-count-eq0-clause-told : goal.returns-then-count-eq0-clause-told
-returns-then-count-eq0-clause-told c = (let a = c.args in
-    told (sym (pop-empty (heap a.faces.now a.keys.now a.count) c.if-count-eq0.true))).1
-
-pub returns-then-places-count-clause-answer : goal.returns-then-places-count-clause-answer
-returns-then-places-count-clause-answer c = (let a = c.args in
-    told (sym (pop-no-room (heap a.faces.now a.keys.now a.count) (a.count - 1) (omega arith) (omega arith)))).0
-
-pub returns-then-places-count-clause-told : goal.returns-then-places-count-clause-told
-returns-then-places-count-clause-told c = (let a = c.args in
-    told (sym (pop-no-room (heap a.faces.now a.keys.now a.count) (a.count - 1) (omega arith) (omega arith)))).1
+pub take_last-requires : goal.take_last-requires
+take_last-requires c =
+    let a = c.args in
+    let f = first_out (heap a.faces.now a.keys.now a.count) c.in-Some.is c.in_ok-entry.ensures.answer in
+    omega (arith, f.counts, f.within)
 
 pub returns-clause-answer : goal.returns-clause-answer
-returns-clause-answer c = (let t = c in
-    let a = t.args in
-    let h = heap a.faces.now a.keys.now a.count in
-    told
-    (ap (λ (g : Heap). leaves g (Popped.First (entry_at h 0).face (entry_at h 0).key (a.count - 1)))
-    (t.take_last.ensures ∙ ap (λ (n : ℕ). popped (heap a.faces.now a.keys.now n) (a.count - 1)) (omega arith))
-    ∙ sym (pop-first h (a.count - 1) (omega arith) (omega arith)))).0
+returns-clause-answer c =
+    let a = c.args in
+    let f = first_out (heap a.faces.now a.keys.now a.count) c.in-Some.is c.in_ok-entry.ensures.answer in
+    let n : a.count - 1 ≡ f.rest = omega (arith, f.counts) in
+    let all : a.count - 1 + 1 ≡ a.count = omega (arith, f.counts) in
+    let gone : heap c.take_last.new.faces c.take_last.new.keys (a.count - 1) ≡ popped (heap a.faces.now a.keys.now a.count) f.rest = c.take_last.ensures ∙ rw (all, n) refl in
+    ap (λ (g : Heap). leaves g (Ok (Some (popped_of c.in-Some.entry (a.count - 1))))) gone ∙ rw n (sym f.pops)
 
 pub returns-clause-told : goal.returns-clause-told
-returns-clause-told c = (let t = c in
-    let a = t.args in
-    let h = heap a.faces.now a.keys.now a.count in
-    told
-    (ap (λ (g : Heap). leaves g (Popped.First (entry_at h 0).face (entry_at h 0).key (a.count - 1)))
-    (t.take_last.ensures ∙ ap (λ (n : ℕ). popped (heap a.faces.now a.keys.now n) (a.count - 1)) (omega arith))
-    ∙ sym (pop-first h (a.count - 1) (omega arith) (omega arith)))).1
+returns-clause-told c = told (ap (λ (x : After (Result (Option Popped) NoRoom)). x.answer) (returns-clause-answer c))

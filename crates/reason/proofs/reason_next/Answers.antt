@@ -5,12 +5,12 @@ use Rattle.reason.specs.Turns.{line_for, reason_turn}
 use Rattle.reason.proofs.Turning.{lined}
 use Rattle.reason.proofs.reason_next.Goals as goal
 
-pub returns-in-Whole : goal.returns-in-Whole
+pub returns-in-Ok-clause-answer : goal.returns-in-Ok-clause-answer
 unfolding reason_turn
-returns-in-Whole c =
-    whole binary32 _ _ _ _ _ _ (line_for binary32 _ _) _ c.read_next-read.ensures c.in-Whole.is
-    (lined binary32 _ _ _ _ _ c.find_reason-reason.ensures c.write_maybe-written.ensures) c.line_turn.ensures
+returns-in-Ok-clause-answer c =
+    whole binary32 _ _ _ _ _ _ (line_for binary32 _ _) _ c.read_next.ensures c.in-Ok.is
+    (lined binary32 _ _ _ _ _ c.find_reason-reason.ensures.answer c.write_maybe-written.ensures) c.line_turn.ensures
 
-pub returns-in-Over : goal.returns-in-Over
+pub returns-in-Err-clause-answer : goal.returns-in-Err-clause-answer
 unfolding reason_turn
-returns-in-Over c = none binary32 _ _ _ _ _ _ (line_for binary32 _ _) _ c.read_next-read.ensures c.in-Over.is
+returns-in-Err-clause-answer c = none binary32 _ _ _ _ _ _ (line_for binary32 _ _) _ c.read_next.ensures c.in-Err.is

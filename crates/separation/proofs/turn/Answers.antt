@@ -1,10 +1,10 @@
 -- `turn` is safe: the window's part of the input is within it. Assumes nothing.
-use Rattle.std.proofs.Common.{sym, length-take-le}
+use Rattle.std.proofs.Common.{refl, sym, length-take-le}
 use Rattle.pipes.proofs.Reading.{answerable}
 use Rattle.separation.proofs.turn.Goals as goal
 
 pub slice_bounds-answer_next-end : goal.slice_bounds-answer_next-end
-slice_bounds-answer_next-end c = (answerable _ c.make_ready-ready.result c.make_ready-ready.ensures.readied c.in-Record.is).within
+slice_bounds-answer_next-end c = (answerable _ _ c.in_ok-run.ensures.readied refl).within
 
-pub slice_bounds-answer_next-end-in-Record : goal.slice_bounds-answer_next-end-in-Record
-slice_bounds-answer_next-end-in-Record c = sym (length-take-le _ _ (answerable _ c.make_ready-ready.result c.make_ready-ready.ensures.readied c.in-Record.is).within)
+pub slice_bounds-answer_next-end-2 : goal.slice_bounds-answer_next-end-2
+slice_bounds-answer_next-end-2 c = sym (length-take-le _ _ (answerable _ _ c.in_ok-run.ensures.readied refl).within)

@@ -14,7 +14,7 @@ pub returns-then-group-lt128-clause-answer : goal.returns-then-group-lt128-claus
 returns-then-group-lt128-clause-answer c =
     let w = c in
     let a = w.args in
-    (sym (first-last a.bytes.now a.at w.wide-group.result w.if-bytes-at.false w.wide-group.ensures c.if-group-lt128.true))
+    (sym (first-last a.bytes.now a.at w.from-group.result w.if-bytes-at.false w.from-group.ensures c.if-group-lt128.true))
 
 pub returns-then-group-lt128-clause-told : goal.returns-then-group-lt128-clause-told
 returns-then-group-lt128-clause-told c = told ((returns-then-group-lt128-clause-answer c))
@@ -23,7 +23,7 @@ pub returns-clause-answer : goal.returns-clause-answer
 returns-clause-answer c =
     let w = c in
     let a = w.args in
-    (c.later.ensures ∙ sym (first_more a.bytes.now a.at w.wide-group.result w.if-bytes-at.false w.wide-group.ensures c.if-group-lt128.false))
+    (c.later.ensures ∙ sym (first_more a.bytes.now a.at w.from-group.result w.if-bytes-at.false w.from-group.ensures c.if-group-lt128.false))
 
 pub returns-clause-told : goal.returns-clause-told
 returns-clause-told c = told ((returns-clause-answer c))

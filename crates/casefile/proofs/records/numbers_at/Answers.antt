@@ -1,12 +1,17 @@
--- The next numbers, or none where reading was refused before. Assumes nothing.
-use Rattle.casefile.proofs.Words.{unread-bad, unread-ended}
+-- The next numbers, in a loop: the invariant is `Loop`. Assumes nothing.
+use mathlib.Core.Path.{sym}
+use native.Mathlib.Omega.{arith}
+use Rattle.std.proofs.lemmas.Result.{err_from_is_err_and}
+use Rattle.casefile.proofs.Words.{next-read, stopped, done}
 use Rattle.casefile.proofs.records.numbers_at.Goals as goal
 
-pub returns-in-At : goal.returns-in-At
-returns-in-At c = rw c.in-At.is c.numbers_from.ensures
+pub returns-in_err-number : goal.returns-in_err-number
+returns-in_err-number c =
+    let p = err_from_is_err_and c.from_residual.result c.from_residual.ensures.1 in
+    rw (p.1, p.2) (stopped c.loop-i.invariant _ c.loop-i-test.true (sym c.in_err-number.ensures))
 
-pub returns-in-Bad : goal.returns-in-Bad
-returns-in-Bad c = rw c.in-Bad.is (unread-bad _ _ _)
+pub loop-i-preserved : goal.loop-i-preserved
+loop-i-preserved c = next-read c.loop-i.invariant c.in_ok-number.number c.requires c.loop-i-test.true (sym c.in_ok-number.ensures)
 
-pub returns-in-Ended : goal.returns-in-Ended
-returns-in-Ended c = rw c.in-Ended.is (unread-ended _ _)
+pub returns : goal.returns
+returns c = done c.loop-i.invariant (omega arith)

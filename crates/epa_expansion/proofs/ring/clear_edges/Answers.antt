@@ -2,5 +2,5 @@
 use Rattle.epa_polytope.proofs.Expanding.{edges-cleared}
 use Rattle.epa_expansion.proofs.ring.clear_edges.Goals as goal
 
-pub returns : goal.returns
-returns c k = edges-cleared _ _ c.clear_pairs.ensures
+pub returns-clause-leaves : goal.returns-clause-leaves
+returns-clause-leaves c = edges-cleared _ _ c.clear_pairs.ensures

@@ -1,22 +1,17 @@
 -- `clear_pairs` leaves what `blank` says: at each turn the pairs passed are zero. Assumes nothing.
 use native.Mathlib.Omega.{arith}
 use mathlib.Core.Path.{◌≡◌, refl, sym, ap, ◌∙◌}
-use Prim.Native.Nat.{ℕ, ◌+◌, ◌*◌}
+use Prim.Native.Nat.{ℕ}
 use Rattle.epa_polytope.specs.Expansion.{blank}
 use Rattle.epa_polytope.proofs.Lists.{blank-next}
 use Rattle.epa_expansion.proofs.ring.clear_pairs.Goals as goal
 
 pub loop-i-init : goal.loop-i-init
 unfolding blank
-loop-i-init c = record { within = omega arith; zeros = refl }
+loop-i-init c = refl
 
 pub loop-i-preserved : goal.loop-i-preserved
-loop-i-preserved c =
-    let first-place : c.loop-i.i * 2 + 0 ≡ c.loop-i.i * 2 = omega arith in
-    record {
-      within = omega arith;
-      zeros = c.set_pair_at-in-loop-i.ensures ∙ rw (c.set_pair_at.ensures, c.loop-i.invariant.zeros, first-place) (sym (blank-next c.loop-i.i c.args.l.now));
-    }
+loop-i-preserved c = c.put_question.ensures ∙ rw c.loop-i.invariant (sym (blank-next c.loop-i.i c.args.l.now))
 
 pub returns : goal.returns
-returns c = c.loop-i.invariant.zeros ∙ ap (λ (k : ℕ). blank k c.args.l.now) (omega arith)
+returns c = c.loop-i.invariant ∙ ap (λ (k : ℕ). blank k c.args.l.now) (omega arith)

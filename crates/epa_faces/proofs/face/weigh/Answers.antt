@@ -156,7 +156,7 @@ returns-then-vc-ab_ap c =
       ← c.sub-ap.ensures,
       ← c.dot-ab_ap.ensures,
       ← c.length_squared.ensures,
-      ← c.scale.ensures,
+      ← c.mul.ensures,
       ← c.add.ensures,
     ) at (in-ab binary32 (triangle c.args.a c.args.b c.args.c) (off-corners (else-c test)) (test-ab test ∙ c.if-vc-ab_ap.true))
     )
@@ -173,7 +173,7 @@ returns-then-vb-ac_ap c =
       ← c.sub-ap.ensures,
       ← c.dot-ac_ap.ensures,
       ← c.length_squared-then-vb-ac_ap.ensures,
-      ← c.scale-then-vb-ac_ap.ensures,
+      ← c.mul-then-vb-ac_ap.ensures,
       ← c.add-then-vb-ac_ap.ensures,
     ) at (in-ac binary32 (triangle c.args.a c.args.b c.args.c) (off-corners (else-c ab.before)) (not-ab ab) (test-ac test ∙ c.if-vb-ac_ap.true))
     )
@@ -191,7 +191,7 @@ returns-then-va-ac_bp c =
       ← c.sub-bc.ensures,
       ← c.dot.ensures,
       ← c.length_squared-then-va-ac_bp.ensures,
-      ← c.scale-then-va-ac_bp.ensures,
+      ← c.mul-then-va-ac_bp.ensures,
       ← c.add-then-va-ac_bp.ensures,
     ) at (in-bc binary32 (triangle c.args.a c.args.b c.args.c) (off-corners (else-c ab.before)) (not-ab ab) (not-ac ac) (test-bc test ∙ c.if-va-ac_bp.true))
     )

@@ -1,10 +1,10 @@
 -- `queue_two` does two `queue_start`: the first ends the run, or the second does the rest. Assumes nothing.
-use Rattle.epa_polytope.proofs.Doing.{goes_on}
+use Rattle.epa_polytope.proofs.Doing.{goes_on, hands-on}
 use Rattle.epa_polytope.proofs.Pairing.{ends_so}
 use Rattle.epa_first_faces.proofs.four.queue_two.Goals as goal
 
-pub returns-in_default : goal.returns-in_default
-returns-in_default c k = ends_so _ (c.queue_start-s1.ensures k) c.in_default.is
+pub returns-in_err-next-clause-leaves : goal.returns-in_err-next-clause-leaves
+returns-in_err-next-clause-leaves c = hands-on c.from_residual.ensures.1 (ends_so _ c.queue_start.ensures.leaves c.in_err-next.was)
 
-pub returns : goal.returns
-returns c k = goes_on _ (c.queue_start-s1.ensures k) c.in-Onward.is (c.queue_start.ensures k)
+pub returns-clause-leaves : goal.returns-clause-leaves
+returns-clause-leaves c = goes_on _ c.queue_start.ensures.leaves c.in_ok-next.was c.queue_start-2.ensures.leaves

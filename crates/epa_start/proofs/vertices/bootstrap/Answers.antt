@@ -4,11 +4,10 @@ use Rattle.vector.specs.Vector.{y_v}
 use Rattle.epa_polytope.proofs.Starting.{none-far, far-pushed}
 use Rattle.epa_start.proofs.vertices.bootstrap.Goals as goal
 
-pub returns-in_default : goal.returns-in_default
+pub returns-in_default-clause-leaves : goal.returns-in_default-clause-leaves
 unfolding y_v of_bits
-returns-in_default c k = none-far _ _ _ c.vertex_at-v.ensures c.second_vertex.ensures c.in_default.is
+returns-in_default-clause-leaves c = none-far _ _ _ c.vertex_at-v.ensures c.second_vertex.ensures c.in_default.is
 
-pub returns : goal.returns
-returns c k =
-    far-pushed _ _ _ c.vertex_at-v.ensures c.second_vertex.ensures c.in-Some.is
-    (c.push_vertex.ensures k)
+pub returns-clause-leaves : goal.returns-clause-leaves
+returns-clause-leaves c =
+    far-pushed _ _ _ c.vertex_at-v.ensures c.second_vertex.ensures c.in-Some.is c.push_vertex.ensures.leaves

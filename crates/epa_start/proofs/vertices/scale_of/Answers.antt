@@ -8,14 +8,10 @@ use Rattle.epa_start.proofs.vertices.scale_of.Goals as goal
 
 pub loop-i-init : goal.loop-i-init
 unfolding of_bits
-loop-i-init c = record { within = omega arith; so_far = scale-start binary32 _ }
+loop-i-init c = scale-start binary32 _
 
 pub loop-i-preserved : goal.loop-i-preserved
-loop-i-preserved c = record {
-  within = omega arith;
-  so_far = scale-grown _ _ _ c.vertex_at.ensures c.length_squared-square.ensures c.loop-i.invariant.so_far c.max-greatest.ensures;
-}
+loop-i-preserved c = scale-grown _ _ _ c.vertex_at.ensures c.length_squared-square.ensures c.loop-i.invariant c.max-greatest.ensures
 
 pub returns : goal.returns
-returns c =
-    c.sqrt.ensures.value ∙ c.loop-i.invariant.so_far.scale ∙ ap (scale_of binary32 _) (omega (arith, c.loop-i.invariant.within, c.loop-i-test.false))
+returns c = c.sqrt.ensures.value ∙ c.loop-i.invariant.scale ∙ ap (scale_of binary32 _) (omega (arith, c.loop-i-test.false))

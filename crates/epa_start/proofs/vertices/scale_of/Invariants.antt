@@ -1,14 +1,8 @@
--- What the loop of `scale_of` keeps, and the number that falls at each turn.
-use Prim.Native.Nat.{◌≤◌, ◌-◌}
+-- What the loop of `scale_of` keeps.
 use lib.Ieee.{binary32}
 use Rattle.epa_polytope.proofs.Starting.{ScaleLoop}
+use Rattle.epa_stores.specs.Lent.{held}
 use Rattle.epa_start.proofs.vertices.scale_of.Given as goal
 
 abbrev pub invariant-loop-i : goal.invariant-loop-i
-invariant-loop-i l = record {
-  within : l.i ≤ l.n;
-  so_far : ScaleLoop binary32 l.vertices l.i l.greatest;
-}
-
-abbrev pub decreases-loop-i : goal.decreases-loop-i
-decreases-loop-i l = l.n - l.i
+invariant-loop-i l = ScaleLoop binary32 (held l.stores).vertices l.i l.greatest

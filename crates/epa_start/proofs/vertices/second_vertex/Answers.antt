@@ -11,7 +11,7 @@ loop-i-smaller c = omega (arith, c.if-i-eq6.false, c.loop-i.invariant.within)
 
 pub loop-i-preserved : goal.loop-i-preserved
 loop-i-preserved c =
-    passed-by c.loop-i.invariant (omega (arith, c.if-i-eq6.false, c.loop-i.invariant.within)) c.direction_of.ensures c.from_shapes-pt.ensures
+    passed-by c.loop-i.invariant (omega (arith, c.if-i-eq6.false, c.loop-i.invariant.within)) c.direction_of.ensures c.support_point-pt.ensures
     c.is_far_from.ensures c.if-is_far_from.false
 
 pub returns-then-i-eq6 : goal.returns-then-i-eq6
@@ -19,5 +19,5 @@ returns-then-i-eq6 c = none_left c.loop-i.invariant (omega (arith, c.if-i-eq6.tr
 
 pub returns-then-is_far_from : goal.returns-then-is_far_from
 returns-then-is_far_from c =
-    found c.loop-i.invariant (omega (arith, c.if-i-eq6.false, c.loop-i.invariant.within)) c.direction_of.ensures c.from_shapes-pt.ensures
+    found c.loop-i.invariant (omega (arith, c.if-i-eq6.false, c.loop-i.invariant.within)) c.direction_of.ensures c.support_point-pt.ensures
     c.is_far_from.ensures c.if-is_far_from.true

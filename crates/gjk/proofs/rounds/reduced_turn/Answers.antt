@@ -9,20 +9,20 @@ use Rattle.gjk.proofs.rounds.reduced_turn.Goals as goal
 
 pub returns-in_default : goal.returns-in_default
 unfolding reduced round_after result_by x_v of_bits
-returns-in_default c = simp (both-in-turn, ← c.project_origin-found.ensures.answer, c.ended.ensures, c.in_default.is)
+returns-in_default c = simp (both-in-turn, ← c.project_origin.ensures.answer, c.ended.ensures, c.in_default.is)
 
-pub returns-then-min_bound-eps_tol : goal.returns-then-min_bound-eps_tol
+pub returns-then-sight-eps_tol : goal.returns-then-sight-eps_tol
 unfolding reduced round_after result_by x_v of_bits
-returns-then-min_bound-eps_tol c = simp (both-in-turn, ← c.project_origin-found.ensures.answer, ← c.apply_location-applied.ensures.answer, ← c.eps_tol.ensures, c.ended-then-min_bound-eps_tol.ensures, c.apart_by.ensures, c.if-min_bound-eps_tol.true, eq-eqb _ _ c.if-smaller-eq3.true, c.in-At.is)
+returns-then-sight-eps_tol c = simp (both-in-turn, ← c.project_origin.ensures.answer, ← c.apply_location-applied.ensures.answer, ← c.eps_tol.ensures, c.ended-then-sight-eps_tol.ensures, c.apart_by.ensures, c.if-sight-eps_tol.true, eq-eqb _ _ c.if-smaller-eq3.true, c.in-Ok.is)
 
 pub returns-then-smaller-eq3 : goal.returns-then-smaller-eq3
 unfolding reduced round_after result_by x_v of_bits
-returns-then-smaller-eq3 c = simp (both-in-turn, ← c.project_origin-found.ensures.answer, ← c.apply_location-applied.ensures.answer, ← c.eps_tol.ensures, c.ended-then-smaller-eq3.ensures, c.if-min_bound-eps_tol.false, eq-eqb _ _ c.if-smaller-eq3.true, c.in-At.is)
+returns-then-smaller-eq3 c = simp (both-in-turn, ← c.project_origin.ensures.answer, ← c.apply_location-applied.ensures.answer, ← c.eps_tol.ensures, c.ended-then-smaller-eq3.ensures, c.if-sight-eps_tol.false, eq-eqb _ _ c.if-smaller-eq3.true, c.in-Ok.is)
 
-pub returns-then-next-eq100 : goal.returns-then-next-eq100
+pub returns-then-niter-eq100 : goal.returns-then-niter-eq100
 unfolding reduced round_after result_by x_v of_bits
-returns-then-next-eq100 c = simp (both-in-turn, ← c.project_origin-found.ensures.answer, ← c.apply_location-applied.ensures.answer, c.ended-then-next-eq100.ensures, eq-eqb _ _ c.if-next-eq100.true, ne_eqb _ _ c.if-smaller-eq3.false, c.in-At.is)
+returns-then-niter-eq100 c = simp (both-in-turn, ← c.project_origin.ensures.answer, ← c.apply_location-applied.ensures.answer, c.ended-then-niter-eq100.ensures, eq-eqb _ _ c.if-niter-eq100.true, ne_eqb _ _ c.if-smaller-eq3.false, c.in-Ok.is)
 
 pub returns : goal.returns
 unfolding reduced round_after result_by x_v of_bits
-returns c = simp (both-in-turn, ← c.project_origin-found.ensures.answer, ← c.apply_location-applied.ensures.answer, c.onward.ensures, ne_eqb _ _ c.if-next-eq100.false, ne_eqb _ _ c.if-smaller-eq3.false, c.in-At.is)
+returns c = simp (both-in-turn, ← c.project_origin.ensures.answer, ← c.apply_location-applied.ensures.answer, c.onward.ensures, ne_eqb _ _ c.if-niter-eq100.false, ne_eqb _ _ c.if-smaller-eq3.false, c.in-Ok.is)

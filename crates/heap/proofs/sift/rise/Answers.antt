@@ -7,9 +7,6 @@ use Rattle.heap.specs.Heap.{Heap, heap, rise}
 use Rattle.heap.proofs.Steps.{rise-root, rise-up, rise-stays}
 use Rattle.heap.proofs.sift.rise.Goals as goal
 
-pub loop-at-init : goal.loop-at-init
-loop-at-init c = (refl, refl, omega arith, λ n. refl)
-
 pub loop-at-preserved : goal.loop-at-preserved
 loop-at-preserved c =
     let s = c in

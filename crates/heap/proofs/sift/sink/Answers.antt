@@ -6,12 +6,6 @@ use Rattle.heap.specs.Heap.{Heap, heap, placed, sink}
 use Rattle.heap.proofs.Steps.{sink-deeper, sink-only, sink-bottom, greater-low, greater-high}
 use Rattle.heap.proofs.sift.sink.Goals as goal
 
-pub loop-child-init : goal.loop-child-init
-loop-child-init c = (refl, refl, omega arith, refl, refl)
-
-pub greater-child-requires : goal.greater-child-requires
-greater-child-requires c = omega arith
-
 pub swap-requires : goal.swap-requires
 swap-requires c =
     let g = c in
@@ -47,9 +41,6 @@ loop-child-preserved c =
       refl,
       ap (λ (h : Heap). sink h g.greater-child.result) (s.swap.ensures _) ∙ sym (sink-deeper (heap k.faces k.keys _) k.at k.child _ k.invariant.3 (omega arith) g.greater-child.ensures) ∙ k.invariant.4,
     )
-
-pub swap-requires-then-child-count : goal.swap-requires-then-child-count
-swap-requires-then-child-count c = omega arith
 
 pub returns-then-child-count : goal.returns-then-child-count
 returns-then-child-count c =

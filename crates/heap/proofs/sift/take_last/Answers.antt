@@ -9,15 +9,6 @@ use Rattle.heap.proofs.Steps.{popped-last, popped-more}
 use Rattle.heap.proofs.Moves.{sink-inside}
 use Rattle.heap.proofs.sift.take_last.Goals as goal
 
-pub bounds-faces-0 : goal.bounds-faces-0
-bounds-faces-0 c = simp length-set (omega arith)
-
-pub bounds-keys-0 : goal.bounds-keys-0
-bounds-keys-0 c = simp length-set (omega arith)
-
-pub sink-at-requires : goal.sink-at-requires
-sink-at-requires c = (c.if-last-gt0.true, simp length-set (omega arith))
-
 pub rise-requires : goal.rise-requires
 rise-requires c =
     let s = c in

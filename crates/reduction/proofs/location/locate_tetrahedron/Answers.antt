@@ -1,13 +1,14 @@
 -- `locate_tetrahedron` returns the definition's `locate_tetrahedron`.
+use Rattle.std.proofs.Common.{rules}
 use lib.Ieee.{of_bits}
 use Rattle.vector.specs.Vector.{zero_v}
 use Rattle.reduction.specs.Reduction.{locate_tetrahedron}
 use Rattle.reduction.proofs.location.locate_tetrahedron.Goals as goal
 
-pub returns-in-At : goal.returns-in-At
+pub returns-in_err-proj : goal.returns-in_err-proj
 unfolding locate_tetrahedron zero_v of_bits
-returns-in-At c = simp (← c.project_local_point_and_get_location.ensures.answer, ← c.tetrahedron_location.ensures, c.in-At.is)
+returns-in_err-proj c = search rules
 
-pub returns-in-Refused : goal.returns-in-Refused
+pub returns : goal.returns
 unfolding locate_tetrahedron zero_v of_bits
-returns-in-Refused c = simp (← c.project_local_point_and_get_location.ensures.answer, c.in-Refused.is)
+returns c = search rules

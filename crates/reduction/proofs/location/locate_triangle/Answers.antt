@@ -1,4 +1,5 @@
 -- `locate_triangle` returns the definition's `locate_triangle`.
+use Rattle.std.proofs.Common.{rules}
 use lib.Ieee.{of_bits}
 use Rattle.vector.specs.Vector.{zero_v}
 use Rattle.reduction.specs.Reduction.{locate_triangle}
@@ -6,4 +7,4 @@ use Rattle.reduction.proofs.location.locate_triangle.Goals as goal
 
 pub returns : goal.returns
 unfolding locate_triangle zero_v of_bits
-returns c = simp (← c.project_local_point_and_get_location-proj.ensures, ← c.triangle_location.ensures)
+returns c = search rules

@@ -4,4 +4,4 @@ use Rattle.shape.proofs.support.ball_toward.Goals as goal
 
 pub returns : goal.returns
 unfolding ball_toward
-returns c = simp (← c.scale.ensures, ← c.add.ensures)
+returns c = simp (← c.mul.ensures, ← c.add.ensures)

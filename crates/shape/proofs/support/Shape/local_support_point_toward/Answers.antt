@@ -4,7 +4,7 @@ use Rattle.shape.proofs.support.Shape.local_support_point_toward.Goals as goal
 
 pub returns-in-Ball : goal.returns-in-Ball
 unfolding local_support_point_toward
-returns-in-Ball c = simp (← c.scale.ensures, c.in-Ball.is)
+returns-in-Ball c = simp (← c.mul.ensures, c.in-Ball.is)
 
 pub returns-in-Cuboid : goal.returns-in-Cuboid
 unfolding local_support_point_toward

@@ -1,26 +1,10 @@
--- `point` returns `corner_point`, by its joined test.
+-- A simplex has the vertices up to its dimension.
 use native.Mathlib.Omega.{arith}
-use Rattle.number.proofs.Told.{told}
-use Rattle.simplex.specs.Operations.{corner_point}
-use Rattle.simplex.proofs.Laws.{one_place}
+use Rattle.simplex.proofs.Laws.{small}
 use Rattle.simplex.proofs.voronoi_simplex.VoronoiSimplex.point.Goals as goal
 
 pub offset_bounds-self-i : goal.offset_bounds-self-i
-offset_bounds-self-i c = let h = one_place c.args.self c.args.i c.args.self.dim (rw (← c.is_simplex.ensures) c.if-is_simplex-i.true) in omega (arith, h.0.dimension)
+offset_bounds-self-i c = let h = small c.args.self (rw (← c.is_simplex.ensures) c.if-is_simplex.true) in omega (arith, h.dimension)
 
 pub bounds-self-i : goal.bounds-self-i
-bounds-self-i c = let h = one_place c.args.self c.args.i c.args.self.dim (rw (← c.is_simplex.ensures) c.if-is_simplex-i.true) in omega (arith, h.0.dimension)
-
-pub returns-then-is_simplex-i-clause-answer : goal.returns-then-is_simplex-i-clause-answer
-unfolding corner_point
-returns-then-is_simplex-i-clause-answer c = (simp (← c.is_simplex.ensures, c.if-is_simplex-i.true))
-
-pub returns-then-is_simplex-i-clause-told : goal.returns-then-is_simplex-i-clause-told
-returns-then-is_simplex-i-clause-told c = told ((returns-then-is_simplex-i-clause-answer c))
-
-pub returns-clause-answer : goal.returns-clause-answer
-unfolding corner_point
-returns-clause-answer c = (simp (← c.is_simplex.ensures, c.if-is_simplex-i.false))
-
-pub returns-clause-told : goal.returns-clause-told
-returns-clause-told c = told ((returns-clause-answer c))
+bounds-self-i c = let h = small c.args.self (rw (← c.is_simplex.ensures) c.if-is_simplex.true) in omega (arith, h.dimension)

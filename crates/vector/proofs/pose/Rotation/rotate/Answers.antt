@@ -5,4 +5,4 @@ use Rattle.vector.proofs.pose.Rotation.rotate.Goals as goal
 
 pub returns : goal.returns
 unfolding rotate_v of_bits
-returns c = simp (← c.axis-b.ensures, ← c.dot.ensures, ← c.scale-along.ensures, ← c.dot-2.ensures, ← c.scale-onto.ensures, ← c.cross.ensures, ← c.scale-across.ensures, ← c.add.ensures, ← c.add-2.ensures)
+returns c = simp (← c.axis-b.ensures, ← c.dot.ensures, ← c.mul-along.ensures, ← c.dot-2.ensures, ← c.mul-onto.ensures, ← c.cross.ensures, ← c.mul-across.ensures, ← c.add.ensures, ← c.add-2.ensures)

@@ -4,4 +4,4 @@ use Rattle.vector.proofs.vec3.Vec3.normalize.Goals as goal
 
 pub returns : goal.returns
 unfolding normalize_v
-returns c = simp (← c.length_recip.ensures, ← c.scale.ensures)
+returns c = simp (← c.length_recip.ensures, ← c.mul.ensures)

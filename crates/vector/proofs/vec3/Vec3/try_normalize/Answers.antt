@@ -4,7 +4,7 @@ use Rattle.vector.proofs.vec3.Vec3.try_normalize.Goals as goal
 
 pub returns-then-is_usable : goal.returns-then-is_usable
 unfolding try_normalize_v
-returns-then-is_usable c = simp (← c.length_recip-recip.ensures, ← c.is_usable.ensures, ← c.scale.ensures, c.if-is_usable.true)
+returns-then-is_usable c = simp (← c.length_recip-recip.ensures, ← c.is_usable.ensures, ← c.mul.ensures, c.if-is_usable.true)
 
 pub returns-else-is_usable : goal.returns-else-is_usable
 unfolding try_normalize_v

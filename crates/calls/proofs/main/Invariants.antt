@@ -1,9 +1,0 @@
--- What the loop of `main` keeps, and the number that falls at each turn.
-use Rattle.std.proofs.Common.{◌≡◌, ◌-◌, ◌≤◌, length}
-use Rattle.calls.proofs.main.Given as goal
-
-abbrev pub invariant-loop-n : goal.invariant-loop-n
-invariant-loop-n l = (l.n ≤ 4_294_967_295) × (length l.block ≡ 131_072)
-
-abbrev pub decreases-loop-n : goal.decreases-loop-n
-decreases-loop-n l = 4_294_967_295 - l.n

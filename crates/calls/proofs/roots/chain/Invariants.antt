@@ -1,9 +1,0 @@
--- What the loop of `chain` keeps, and the number that falls at each turn.
-use Rattle.std.proofs.Common.{◌-◌, ◌≤◌}
-use Rattle.calls.proofs.roots.chain.Given as goal
-
-abbrev pub invariant-loop-i : goal.invariant-loop-i
-invariant-loop-i l = l.i ≤ l.n
-
-abbrev pub decreases-loop-i : goal.decreases-loop-i
-decreases-loop-i l = l.n - l.i

@@ -1,2 +1,0 @@
--- What the pushes' proofs share.
-pub mod Rooms

@@ -1,9 +1,0 @@
--- The text has room. Assumes nothing.
-use Rattle.std.proofs.Common.{arith}
-use Rattle.figures.proofs.Placing.{placed-put}
-use Rattle.figures.proofs.text.put_text.Goals as goal
-
-pub returns : goal.returns
-returns c =
-    let a = c.args in
-    rw c.next_or.ensures (placed-put _ _ _ _ _ c.place.ensures (omega arith))

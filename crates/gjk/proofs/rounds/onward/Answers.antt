@@ -1,8 +1,0 @@
--- `onward` returns `onward_with`.
-use mathlib.Core.Path.{refl}
-use Rattle.gjk.specs.Carried.{next_by, turn_by}
-use Rattle.gjk.proofs.rounds.onward.Goals as goal
-
-pub returns : goal.returns
-unfolding next_by turn_by
-returns c = refl

@@ -1,8 +1,0 @@
--- `Vec3::div` returns `div_v`, operation by operation.
-use mathlib.Core.Path.{refl}
-use Rattle.vector.specs.Vector.{div_v}
-use Rattle.vector.proofs.vec3.Vec3.div.Goals as goal
-
-pub returns : goal.returns
-unfolding div_v
-returns c = refl

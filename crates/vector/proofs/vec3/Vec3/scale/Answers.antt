@@ -1,8 +1,0 @@
--- `Vec3::scale` returns `scale_v`, operation by operation.
-use mathlib.Core.Path.{refl}
-use Rattle.vector.specs.Vector.{scale_v}
-use Rattle.vector.proofs.vec3.Vec3.scale.Goals as goal
-
-pub returns : goal.returns
-unfolding scale_v
-returns c = refl

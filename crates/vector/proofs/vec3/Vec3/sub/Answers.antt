@@ -1,8 +1,0 @@
--- `Vec3::sub` returns `sub_v`, operation by operation.
-use mathlib.Core.Path.{refl}
-use Rattle.vector.specs.Vector.{sub_v}
-use Rattle.vector.proofs.vec3.Vec3.sub.Goals as goal
-
-pub returns : goal.returns
-unfolding sub_v
-returns c = refl

@@ -1,0 +1,2 @@
+-- That a refusal stands to the loop's end.
+pub mod Stays
