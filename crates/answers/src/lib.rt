@@ -10,7 +10,7 @@ use shape::Shape;
 use vector::Vec3;
 use vote::{Agreed, Answer, NoAgreement};
 
-// Document 01's kind of a shape, and its numbers in their order; those that the kind hasn't got are not read.
+// Document 01's kind of a shape, a number since C gives it so, and its numbers in their order; those that the kind hasn't got are not read.
 #[repr(C)]
 #[derive(Clone, Copy)]
 pub struct ShapeRecord {
@@ -20,7 +20,7 @@ pub struct ShapeRecord {
     pub r: Vec3,
 }
 
-// Of three answers: document 01's number, 0 or 5, the odd channel's number, and the answer.
+// Of three answers: document 01's number, 0 or 5, the odd channel's number, and the answer. Numbers, since C is told them so.
 #[repr(C)]
 #[derive(Clone, Copy)]
 pub struct Voted {

@@ -64,6 +64,7 @@ pub fn separate(
     ensures { Ends (on_first (separated binary32 pos12 g1 g2 dir max_dist exact)) result
         (λ m. records_lent m vertices ids floats deleted edges heap_ids heap_keys pending) }
 {
+    // These steps stand in `epa_lent` too: a function that took the run as a closure would ask of its caller that it can be called.
     let Row { mut pairs, n } = edges::row_of(edges);
     let asked = Case {
         g1,

@@ -9,7 +9,7 @@ use cast::{Cast, Ray};
 use refusal::WouldPanic;
 use vector::{Pose, Vec3};
 
-// The number of the answer, and the time and the direction; what is no answer has zeros.
+// The number of the answer, and the time and the direction; what is no answer has zeros. A number, since C is told it so.
 #[repr(C)]
 #[derive(Clone, Copy)]
 pub struct CastRecord {

@@ -32,6 +32,7 @@ pub fn closest_points(
     ensures { Ends (on_first (penetration plain binary32 pos12 g1 g2 simplex)) result
         (λ m. records_lent m vertices ids floats deleted edges heap_ids heap_keys pending) }
 {
+    // These steps stand in `channel_lent` too: a function that took the run as a closure would ask of its caller that it can be called.
     let Row { mut pairs, n } = edges::row_of(edges);
     let answer = epa::closest_points_plain(
         pos12,

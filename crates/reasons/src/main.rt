@@ -81,6 +81,7 @@ fn finish(rt: &HostRuntime, end: End, out: &[u8]) {
     }
 }
 
+// What each program says at its end and at a failure is its own; what the programs share is `pipes`.
 fn close(rt: &HostRuntime, out: &[u8], place: usize) {
     if pipes::flushed(&mut rt.stdout(), out, place).is_err() {
         pipes::complain(&mut rt.stderr(), b"reasons: a write failed\n");

@@ -89,6 +89,7 @@ fn finish(rt: &HostRuntime, end: End, n: u64, out: &mut [u8]) {
     }
 }
 
+// What each program says at its end and at a failure is its own; what the programs share is `pipes`.
 fn close(rt: &HostRuntime, n: u64, out: &mut [u8], at: usize) {
     if closed(rt, n, out, at).is_err() {
         pipes::complain(&mut rt.stderr(), b"separation: a write failed\n");

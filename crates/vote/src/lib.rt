@@ -14,7 +14,7 @@ use vector::Vec3;
 #[repr(C)]
 #[derive(Clone, Copy)]
 pub struct Answer {
-    // its letter, of D M S P N X R; the vote asks only whether two are the same
+    // its letter, of D M S P N X R, a byte since C is told it so; the vote asks only whether two are the same
     pub outcome: u8,
     pub point1: Vec3,
     pub point2: Vec3,
