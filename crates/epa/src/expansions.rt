@@ -61,7 +61,13 @@ fn iterate<const PLAIN: bool>(
 {
     let popped = pop_live(stores, tally);
     let Some(face_id) = popped.entry else {
-        let end = answer_of(Found::HeapEmpty, stores, best.face);
+        let end = answer_of(
+            Found::HeapEmpty,
+            &mut *stores.vertices,
+            &mut *stores.ids,
+            &mut *stores.floats,
+            best.face,
+        );
         return Err(Finish {
             end,
             tally: popped.tally,
@@ -104,6 +110,12 @@ pub(crate) fn expansions<const PLAIN: bool>(
             Err(finish) => return finish,
         }
     }
-    let end = answer_of(Found::EnoughExpansions, stores, best.face);
+    let end = answer_of(
+        Found::EnoughExpansions,
+        &mut *stores.vertices,
+        &mut *stores.ids,
+        &mut *stores.floats,
+        best.face,
+    );
     Finish { end, tally }
 }

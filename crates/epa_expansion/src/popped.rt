@@ -62,11 +62,23 @@ fn settle<const PLAIN: bool>(
     let dist = -face_id.neg_dist;
     let best1 = better(best, face, candidate);
     if has_converged(best1.bound, dist) {
-        let end = answer_of(Found::Converged, stores, best1.face);
+        let end = answer_of(
+            Found::Converged,
+            &mut *stores.vertices,
+            &mut *stores.ids,
+            &mut *stores.floats,
+            best1.face,
+        );
         return Err(Finish { end, tally });
     }
     if is_stuck(dist, best.last, candidate, best1.bound) {
-        let end = answer_of(Found::Stuck, stores, best1.face);
+        let end = answer_of(
+            Found::Stuck,
+            &mut *stores.vertices,
+            &mut *stores.ids,
+            &mut *stores.floats,
+            best1.face,
+        );
         return Err(Finish { end, tally });
     }
     let expansion = Expansion {

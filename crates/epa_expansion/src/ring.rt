@@ -51,6 +51,17 @@ pub fn regrow(stores: &mut Stores<'_>, tally: Tally, expansion: Expansion) -> Re
         let end = End::Nothing(Lost::NoSilhouette);
         return Err(Finish { end, tally });
     }
-    let grown = grow_all(stores, tally, expansion, tally.edges)?;
+    let grown = grow_all(
+        &mut *stores.vertices,
+        stores.ids,
+        stores.floats,
+        stores.deleted,
+        &mut *stores.edges,
+        stores.heap_ids,
+        stores.heap_keys,
+        tally,
+        expansion,
+        tally.edges,
+    )?;
     close_ring(stores, grown, tally.faces)
 }

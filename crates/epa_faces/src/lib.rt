@@ -10,24 +10,23 @@ ghost use Rattle.epa_polytope.specs.Stores.{vertex_at, with_vertices, with_face_
 ghost use Rattle.epa_polytope.specs.Silhouette.{next_ccw_pt_id, facing_from};
 ghost use Rattle.epa_polytope.specs.Steps.{weighted, answer_of};
 ghost use Rattle.epa_polytope.specs.Expansion.{can_be_seen_by};
-ghost use Rattle.epa_stores.specs.Lent.{held};
 
 mod face;
 
 use epa_polytope::{End, Facing, Found, Made, Question};
-use epa_stores::{Stores, corner_at, neighbour_at, normal_of, vertex_at};
+use epa_stores::{corner_at, neighbour_at, normal_of, vertex_at, weights_of};
 use face::face_new;
 use projection::Triangle;
 use vector::Vec3;
 
 // `Face::new` of three vertices.
-pub fn made_of(stores: &Stores<'_>, a: usize, b: usize, c: usize) -> Made
-    ensures { result ≡ face_new binary32 (vertex_at (held stores.now).vertices a).point (vertex_at (held stores.now).vertices b).point
-        (vertex_at (held stores.now).vertices c).point }
+pub fn made_of(vertices: &[f32], a: usize, b: usize, c: usize) -> Made
+    ensures { result ≡ face_new binary32 (vertex_at vertices.now a).point (vertex_at vertices.now b).point
+        (vertex_at vertices.now c).point }
 {
-    let p0 = stores.vertex_at(a).point;
-    let p1 = stores.vertex_at(b).point;
-    let p2 = stores.vertex_at(c).point;
+    let p0 = vertex_at(vertices, a).point;
+    let p1 = vertex_at(vertices, b).point;
+    let p2 = vertex_at(vertices, c).point;
     face_new(p0, p1, p2)
 }
 
@@ -41,16 +40,17 @@ fn weighted_sum(u: Vec3, a: Vec3, b: Vec3, c: Vec3) -> Vec3
 
 // `Face::closest_points` of the face i, with its normal.
 #[tactic(auto, unfolding(epa_polytope::specs::Steps::answer_of))]
-pub fn answer_of(why: Found, stores: &Stores<'_>, i: usize) -> End
-    ensures { result ≡ answer_of binary32 why (held stores.now) i }
+pub fn answer_of(why: Found, vertices: &[f32], ids: &[usize], floats: &[f32], i: usize) -> End
+    ensures { Reads (λ l. answer_of binary32 why l i) result
+        (λ k. with_vertices vertices.now (with_face_ids ids.now (with_face_floats floats.now k))) }
 {
-    let a = stores.vertex_at(stores.corner_at(i, 0));
-    let b = stores.vertex_at(stores.corner_at(i, 1));
-    let c = stores.vertex_at(stores.corner_at(i, 2));
-    let u = stores.weights_of(i);
+    let a = vertex_at(vertices, corner_at(ids, i, 0));
+    let b = vertex_at(vertices, corner_at(ids, i, 1));
+    let c = vertex_at(vertices, corner_at(ids, i, 2));
+    let u = weights_of(floats, i);
     let point1 = weighted_sum(u, a.orig1, b.orig1, c.orig1);
     let point2 = weighted_sum(u, a.orig2, b.orig2, c.orig2);
-    End::Answers(why, point1, point2, stores.normal_of(i))
+    End::Answers(why, point1, point2, normal_of(floats, i))
 }
 
 // `next_ccw_pt_id`: the corner after that of the face which is the vertex `id`, if one is.

@@ -129,10 +129,10 @@ pub fn start_four(stores: &mut Stores<'_>, tally: Tally, tol: f32) -> Result<Tal
     ensures kept { Kept stores }
 {
     wind_outward(stores.vertices);
-    let m1 = made_of(stores, 0, 1, 2);
-    let m2 = made_of(stores, 1, 3, 2);
-    let m3 = made_of(stores, 0, 2, 3);
-    let m4 = made_of(stores, 0, 3, 1);
+    let m1 = made_of(&mut *stores.vertices, 0, 1, 2);
+    let m2 = made_of(&mut *stores.vertices, 1, 3, 2);
+    let m3 = made_of(&mut *stores.vertices, 0, 2, 3);
+    let m4 = made_of(&mut *stores.vertices, 0, 3, 1);
     let made = four_faces(stores, tally, m1, m2, m3, m4)?;
     queue_four(stores, made, tol, m1.holds, m2.holds, m3.holds, m4.holds)
 }

@@ -75,8 +75,8 @@ fn two_faces(stores: &mut Stores<'_>, tally: Tally) -> Result<Tally, Finish>
     ensures leaves { LeavesAll (two_faces single) tally result stores }
     ensures kept { Kept stores }
 {
-    let m1 = made_of(stores, 0, 1, 2);
-    let m2 = made_of(stores, 0, 2, 1);
+    let m1 = made_of(&mut *stores.vertices, 0, 1, 2);
+    let m2 = made_of(&mut *stores.vertices, 0, 2, 1);
     let pts1 = Three { a: 0, b: 1, c: 2 };
     let pts2 = Three { a: 0, b: 2, c: 1 };
     let adj1 = Three { a: 1, b: 1, c: 1 };

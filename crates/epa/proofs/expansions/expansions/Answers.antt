@@ -1,6 +1,7 @@
 -- `expansions` does what the run's `expansions` does: at each turn what is left of the expansions does the same as all did at first. Assumes nothing.
 use Rattle.std.proofs.Common.{rules}
 use Rattle.epa_polytope.proofs.Looping.{loop-starts, turn-ready, loop-ends, loop-turns, loop-done}
+use Rattle.epa_stores.specs.Lent.{held}
 use Rattle.epa.proofs.expansions.expansions.Goals as goal
 
 pub loop-turn-init : goal.loop-turn-init
@@ -20,4 +21,4 @@ loop-turn-preserved g c =
     }
 
 pub returns-clause-leaves : goal.returns-clause-leaves
-returns-clause-leaves g c = loop-done c.loop-turn.invariant.expanded c.loop-turn-test.false c.answer_of-end.ensures
+returns-clause-leaves g c = loop-done c.loop-turn.invariant.expanded c.loop-turn-test.false (c.answer_of-end.ensures (held c.loop-turn.stores))

@@ -1,6 +1,7 @@
 -- `regrow` does what the run's `regrow` does: there is no edge, or the new faces are made, and their ring is closed. Assumes nothing.
+use mathlib.Core.Path.{refl}
 use Rattle.epa_polytope.specs.Promises.{single}
-use Rattle.epa_polytope.proofs.Doing.{hands-on}
+use Rattle.epa_polytope.proofs.Doing.{here, hands-on}
 use Rattle.epa_polytope.proofs.Expanding.{no_edges, regrow-ended, regrown}
 use Rattle.epa_expansion.proofs.ring.regrow.Goals as goal
 
@@ -9,8 +10,8 @@ returns-then-tally-eq0-clause-leaves c = no_edges single _ _ _ c.if-tally-eq0.tr
 
 pub returns-in_err-grown-clause-leaves : goal.returns-in_err-grown-clause-leaves
 returns-in_err-grown-clause-leaves c =
-    hands-on c.from_residual.ensures.1 (regrow-ended single _ _ _ c.if-tally-eq0.false c.grow_all.ensures.leaves c.in_err-grown.was)
+    hands-on c.from_residual.ensures.1 (regrow-ended single _ _ _ c.if-tally-eq0.false (here c.grow_all.ensures _ refl) c.in_err-grown.was)
 
 pub returns-clause-leaves : goal.returns-clause-leaves
 returns-clause-leaves c =
-    regrown single _ _ _ c.if-tally-eq0.false c.grow_all.ensures.leaves c.in_ok-grown.was c.close_ring.ensures.leaves
+    regrown single _ _ _ c.if-tally-eq0.false (here c.grow_all.ensures _ refl) c.in_ok-grown.was c.close_ring.ensures.leaves
