@@ -170,6 +170,8 @@ impl Tetrahedron {
         )
     }
 
+    // A hint, without which LLVM makes it a call, and the embedded calls nest one function deeper (README.md, bench/stack).
+    #[inline(always)]
     fn face_bcd(self, v: Differences, s: Sides) -> Result<Option<TetrahedronProjection>, WouldPanic>
         ensures { result ≡ face_bcd binary32 self v s }
     {

@@ -49,6 +49,8 @@ fn same_vectors(a: Vec3, b: Vec3) -> bool
 }
 
 // Whether outcome and counts are the same and each float agrees.
+// A hint, without which LLVM makes it a call, both answers copied, and the vote takes a third longer (docs/DESIGN-PASS.md, "Speed").
+#[inline(always)]
 pub fn agree(a: Answer, b: Answer) -> bool
     ensures { result ≡ agree binary32 a b }
 {
