@@ -53,7 +53,7 @@ module _ (w : World) (tol : Float) (b : Best) {l l1 : Lists} {c : Tally} {x : Po
   none_left t q = record { same = rw q (pops t) }
 
   module _ {i : FaceId} {l2 : Lists} {r : Result Visited Finish} (t : x.entry ≡ Some i) (h : Does visit_out (visit w tol b (entry_of i)) l1 x.tally l2 r) where
-    iterated : {y : Result Visited Finish} → r ≡ y → Does visit_out (iterate w tol b) l c l2 (completed_of y)
+    pub iterated : {y : Result Visited Finish} → r ≡ y → Does visit_out (iterate w tol b) l c l2 (completed_of y)
     iterated {y} q = record { same = completed-out l2 y ∙ ap (λ (o : Out Best). next o completing) (rw q at h.same) ∙ pops t }
 
     pub iterated-ends : {f : Finish} → r ≡ Err f → Does visit_out (iterate w tol b) l c l2 (Err f)
